@@ -1,0 +1,3 @@
+pub mod Speeds
+pub mod Refusals
+pub mod Gradients
