@@ -58,6 +58,20 @@ impl Speed {
 }
 
 impl Code {
+    // The ten codes, rising.
+    pub const ALL: [Code; 10] = [
+        Code::Stop,
+        Code::Go(Speed::V30),
+        Code::Go(Speed::V40),
+        Code::Go(Speed::V50),
+        Code::Go(Speed::V60),
+        Code::Go(Speed::V70),
+        Code::Go(Speed::V80),
+        Code::Go(Speed::V90),
+        Code::Go(Speed::V100),
+        Code::Go(Speed::V120),
+    ];
+
     // The code of a byte: 0 is stop, a speed's km/h that speed; none where the byte is no code.
     pub fn from_byte(byte: u8) -> Option<Code>
         ensures { λ r. ⌜ r ≡ code-of byte ⌝ }

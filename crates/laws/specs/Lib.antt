@@ -1,0 +1,4 @@
+pub mod Books
+pub mod Questions
+pub mod Order
+pub mod Judged
