@@ -1,0 +1,4 @@
+mod Each
+pub mod Neighbours
+pub mod Places
+pub mod Fits

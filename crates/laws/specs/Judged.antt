@@ -3,10 +3,13 @@
 --     Keeps xs           the figures of xs keep the four laws
 --     Book xs            xs is the table of a book
 --     Unfit xs n         refusal n is the first that is due to xs
+--     fits xs            the same as a test
 --     Judged xs r        r is that refusal, or none where xs is a book
 use Prim.Native.Nat.{ℕ, _<_}
 use mathlib.Core.Path.{_≡_}
 use mathlib.Core.List.{List}
+use mathlib.Core.Bool.{Bool, _&&_}
+use lib.Dec.{leb, eqb}
 use lib.ListN.{length, getD}
 use Rattle.std.specs.declared.result.Result.{Result}
 use Rattle.std.specs.declared.result.Result.the-variants.{Ok, Err}
@@ -14,6 +17,7 @@ use Rattle.codes.specs.declared.refusals.Refusal.{Refusal}
 use Rattle.codes.specs.Refusals.{notice}
 use Rattle.laws.specs.Books.{Metres, Laws}
 use Rattle.laws.specs.Questions.{emergency-of, service-of}
+use Rattle.laws.specs.Order.{each, in-order}
 
 abbrev pub Ranged : List ℕ → Type 0
 Ranged xs = (i : ℕ) → i < length xs → Metres (getD xs i 0)
@@ -26,6 +30,13 @@ pub record Book (xs : List ℕ) : Type 0 where
   pub whole : length xs ≡ 594
   pub ranged : Ranged xs
   pub keeps : Keeps xs
+
+-- the same as a test that can be computed
+abbrev pub metres : ℕ → Bool
+metres d = leb 1 d && leb d 4095
+
+abbrev pub fits : List ℕ → Bool
+fits xs = eqb (length xs) 594 && each xs metres && in-order (emergency-of xs) (service-of xs)
 
 -- the number of the first refusal that is due to a table that is no book
 pub data Unfit (xs : List ℕ) : ℕ → Type 0 where

@@ -60,22 +60,35 @@ next-class C10 = Some C11
 next-class C11 = None
 
 -- an emergency figure is not below that of the next higher to, nor above that of the next higher from or the next steeper class
+abbrev pub next-to-kept : Emergencies → Class → Speed → Code → Bool
+next-to-kept E k from to = due (next-code to) (λ high. not (lower high (Go from)) || leb (E k from high) (E k from to))
+
+abbrev pub next-from-kept : Emergencies → Class → Speed → Code → Bool
+next-from-kept E k from to = due (next-speed from) (λ high. leb (E k from to) (E k high to))
+
+abbrev pub next-class-kept : Emergencies → Class → Speed → Code → Bool
+next-class-kept E k from to = due (next-class k) (λ steeper. leb (E k from to) (E steeper from to))
+
 abbrev pub emergency-in-order : Emergencies → Class → Speed → Code → Bool
-emergency-in-order E k from to =
-    due (next-code to) (λ high. not (lower high (Go from)) || leb (E k from high) (E k from to))
-    && due (next-speed from) (λ high. leb (E k from to) (E k high to))
-    && due (next-class k) (λ steeper. leb (E k from to) (E steeper from to))
+emergency-in-order E k from to = next-to-kept E k from to && next-from-kept E k from to && next-class-kept E k from to
 
 -- a service figure is not above that of the next higher from or the next steeper class
-abbrev pub service-in-order : Services → Class → Speed → Bool
-service-in-order D k from =
-    due (next-speed from) (λ high. leb (D k from) (D k high))
-    && due (next-class k) (λ steeper. leb (D k from) (D steeper from))
+abbrev pub service-from-kept : Services → Class → Speed → Bool
+service-from-kept D k from = due (next-speed from) (λ high. leb (D k from) (D k high))
 
--- the figures from one speed
+abbrev pub service-class-kept : Services → Class → Speed → Bool
+service-class-kept D k from = due (next-class k) (λ steeper. leb (D k from) (D steeper from))
+
+abbrev pub service-in-order : Services → Class → Speed → Bool
+service-in-order D k from = service-from-kept D k from && service-class-kept D k from
+
+-- only a to below from has a figure
+abbrev pub to-in-order : Emergencies → Class → Speed → Code → Bool
+to-in-order E k from to = not (lower to (Go from)) || emergency-in-order E k from to
+
+-- the figures from one speed, of one class, and all
 abbrev pub row-in-order : Emergencies → Services → Class → Speed → Bool
-row-in-order E D k from =
-    service-in-order D k from && each codes (λ to. not (lower to (Go from)) || emergency-in-order E k from to)
+row-in-order E D k from = service-in-order D k from && each codes (to-in-order E k from)
 
 abbrev pub class-in-order : Emergencies → Services → Class → Bool
 class-in-order E D k = each speeds (row-in-order E D k)

@@ -2,7 +2,7 @@
 ghost use mathlib.Core.Path.{_≡_};
 ghost use Rattle.std.specs.Orderings.{Decides};
 ghost use Rattle.laws.specs.Books.{Laws};
-ghost use Rattle.laws.specs.Order.{next-speed, next-code, next-class, emergency-in-order, service-in-order, row-in-order, class-in-order};
+ghost use Rattle.laws.specs.Order.{next-speed, next-code, next-class, emergency-in-order, to-in-order, service-in-order, row-in-order, class-in-order};
 use super::figures::Figures;
 use codes::Class;
 use codes::Code;
@@ -42,7 +42,19 @@ fn next_code(code: Code) -> Option<Code>
 fn next_class(class: Class) -> Option<Class>
     ensures { λ r. ⌜ r ≡ next-class class ⌝ }
 {
-    Class::from_number(class.number() + 1)
+    match class {
+        Class::C1 => Some(Class::C2),
+        Class::C2 => Some(Class::C3),
+        Class::C3 => Some(Class::C4),
+        Class::C4 => Some(Class::C5),
+        Class::C5 => Some(Class::C6),
+        Class::C6 => Some(Class::C7),
+        Class::C7 => Some(Class::C8),
+        Class::C8 => Some(Class::C9),
+        Class::C9 => Some(Class::C10),
+        Class::C10 => Some(Class::C11),
+        Class::C11 => None,
+    }
 }
 
 // Whether the emergency figure is in order with that of the next higher `to`, the next higher `from` and the next steeper class.
@@ -64,6 +76,13 @@ fn emergency_in_order<F: Figures>(figures: &F, class: Class, from: Speed, to: Co
         Some(steeper) => metres <= figures.emergency(steeper, from, to),
         None => true,
     }
+}
+
+// Only a `to` below `from` has a figure.
+fn to_in_order<F: Figures>(figures: &F, class: Class, from: Speed, to: Code) -> bool
+    ensures { λ r. ⌜ r ≡ to-in-order (F·Figures .emergencies (now (figures .entry))) class from to ⌝ }
+{
+    !to.is_below(Code::Go(from)) || emergency_in_order(figures, class, from, to)
 }
 
 // Whether the service figure is in order with that of the next higher `from` and the next steeper class.
@@ -90,7 +109,7 @@ fn row_in_order<F: Figures>(figures: &F, class: Class, from: Speed) -> bool
         return false;
     }
     for to in Code::ALL {
-        if to.is_below(Code::Go(from)) && !emergency_in_order(figures, class, from, to) {
+        if !to_in_order(figures, class, from, to) {
             return false;
         }
     }

@@ -2,6 +2,7 @@
 // rising, then the nine service figures, from rising.
 ghost use mathlib.Core.Path.{_≡_};
 ghost use Prim.Native.Nat.{ℕ, _<_};
+ghost use lib.ListN.{getD};
 ghost use Rattle.std.specs.Orderings.{Decides};
 ghost use Rattle.laws.specs.Books.{Metres};
 ghost use Rattle.laws.specs.Questions.{emergency, service, place, column, rank, before, emergency-of, service-of};
@@ -75,17 +76,24 @@ pub fn service_place(class: Class, from: Speed) -> usize
     54 * (class.number() as usize - 1) + 45 + column(from)
 }
 
+// The figure at a place, 0 past the end.
+fn figure_at(table: &[u16], place: usize) -> u16
+    ensures { λ r. ⌜ r ≡ getD (now (table .entry)) place 0 ⌝ }
+{
+    if place < table.len() { table[place] } else { 0 }
+}
+
 pub impl<'a> Figures for Table<'a> as TableFigures {
     ghost emergencies = { λ table. emergency-of (table .metres .now) };
 
     ghost services = { λ table. service-of (table .metres .now) };
 
     fn emergency(&self, class: Class, from: Speed, to: Code) -> u16 {
-        self.metres.get(emergency_place(class, from, to)).copied().unwrap_or(0)
+        figure_at(self.metres, emergency_place(class, from, to))
     }
 
     fn service(&self, class: Class, from: Speed) -> u16 {
-        self.metres.get(service_place(class, from)).copied().unwrap_or(0)
+        figure_at(self.metres, service_place(class, from))
     }
 }
 
