@@ -2,7 +2,7 @@
 ghost use mathlib.Core.Path.{_≡_};
 ghost use Rattle.std.specs.Orderings.{Decides};
 ghost use Rattle.laws.specs.Books.{Laws};
-ghost use Rattle.laws.specs.Order.{next-speed, next-code, next-class, emergency-in-order, to-in-order, service-in-order, row-in-order, class-in-order};
+ghost use Rattle.laws.specs.Order.{next-speed, next-code, next-class, emergency-in-order, to-in-order, service-in-order, row-in-order, class-in-order, in-order};
 use super::figures::Figures;
 use codes::Class;
 use codes::Code;
@@ -130,7 +130,8 @@ fn class_in_order<F: Figures>(figures: &F, class: Class) -> bool
 
 // Whether the figures keep the four laws: yes exactly if they do.
 pub fn keeps_laws<F: Figures>(figures: &F) -> bool
-    ensures { λ r. ⌜ Decides r (Laws (F·Figures .emergencies (now (figures .entry))) (F·Figures .services (now (figures .entry)))) ⌝ }
+    ensures test { λ r. ⌜ r ≡ in-order (F·Figures .emergencies (now (figures .entry))) (F·Figures .services (now (figures .entry))) ⌝ }
+    ensures laws { λ r. ⌜ Decides r (Laws (F·Figures .emergencies (now (figures .entry))) (F·Figures .services (now (figures .entry)))) ⌝ }
 {
     for class in Class::ALL {
         if !class_in_order(figures, class) {

@@ -3,10 +3,10 @@
 ghost use mathlib.Core.Path.{_≡_};
 ghost use Prim.Native.Nat.{ℕ, _<_};
 ghost use lib.ListN.{getD};
-ghost use Rattle.std.specs.Orderings.{Decides};
-ghost use Rattle.laws.specs.Books.{Metres};
+ghost use Rattle.codes.specs.Refusals.{told};
+ghost use Rattle.laws.specs.Order.{each};
 ghost use Rattle.laws.specs.Questions.{emergency, service, place, column, rank, before, emergency-of, service-of};
-ghost use Rattle.laws.specs.Judged.{Ranged, Judged};
+ghost use Rattle.laws.specs.Judged.{metres, judged, Judged};
 use super::figures::Figures;
 use super::order::keeps_laws;
 use codes::BookFault;
@@ -22,7 +22,7 @@ pub const FIGURE_COUNT: usize = 594;
 // A table of figures; a figure that it lacks counts as 0.
 #[derive(Clone, Copy)]
 pub struct Table<'a> {
-    pub metres: &'a [u16],
+    pub figures: &'a [u16],
 }
 
 // The place of a speed among the nine, from 0.
@@ -84,42 +84,41 @@ fn figure_at(table: &[u16], place: usize) -> u16
 }
 
 pub impl<'a> Figures for Table<'a> as TableFigures {
-    ghost emergencies = { λ table. emergency-of (table .metres .now) };
+    ghost emergencies = { λ table. emergency-of (table .figures .now) };
 
-    ghost services = { λ table. service-of (table .metres .now) };
+    ghost services = { λ table. service-of (table .figures .now) };
 
     fn emergency(&self, class: Class, from: Speed, to: Code) -> u16 {
-        figure_at(self.metres, emergency_place(class, from, to))
+        figure_at(self.figures, emergency_place(class, from, to))
     }
 
     fn service(&self, class: Class, from: Speed) -> u16 {
-        figure_at(self.metres, service_place(class, from))
+        figure_at(self.figures, service_place(class, from))
     }
 }
 
 // Whether a figure can stand in a book: 1 to 4,095 m.
-pub fn is_distance(metres: u16) -> bool
-    ensures { λ r. ⌜ Decides r (Metres metres) ⌝ }
+pub fn is_distance(figure: u16) -> bool
+    ensures { λ r. ⌜ r ≡ metres figure ⌝ }
 {
-    metres >= 1 && metres <= 4095
+    figure >= 1 && figure <= 4095
 }
 
 // Whether each figure is 1 to 4,095 m.
 fn in_range(table: &[u16]) -> bool
-    ensures { λ r. ⌜ Decides r (Ranged (now (table .entry))) ⌝ }
+    ensures { λ r. ⌜ r ≡ each (now (table .entry)) metres ⌝ }
 {
-    for metres in table {
-        if !is_distance(*metres) {
+    for figure in table {
+        if !is_distance(*figure) {
             return false;
         }
     }
     true
 }
 
-// Whether a table in writing order is a book: refused by 10 where it has not 594 figures, by 17 where one of them is outside
-// 1 to 4,095 m, and by 20 where they break a law.
-pub fn judge(table: &[u16]) -> Result<(), Refusal>
-    ensures { λ r. ⌜ Judged (now (table .entry)) r ⌝ }
+// The first refusal that is due to a table.
+fn first_fault(table: &[u16]) -> Result<(), Refusal>
+    ensures { λ r. ⌜ told r ≡ judged (now (table .entry)) ⌝ }
 {
     if table.len() != FIGURE_COUNT {
         return Err(Refusal::Size);
@@ -127,8 +126,16 @@ pub fn judge(table: &[u16]) -> Result<(), Refusal>
     if !in_range(table) {
         return Err(Refusal::Record(RecordFault::Entry));
     }
-    if !keeps_laws(&Table { metres: table }) {
+    if !keeps_laws(&Table { figures: table }) {
         return Err(Refusal::Book(BookFault::Order));
     }
     Ok(())
+}
+
+// Whether a table in writing order is a book: refused by 10 where it has not 594 figures, by 17 where one of them is outside
+// 1 to 4,095 m, and by 20 exactly where they break a law.
+pub fn judge(table: &[u16]) -> Result<(), Refusal>
+    ensures { λ r. ⌜ Judged (now (table .entry)) r ⌝ }
+{
+    first_fault(table)
 }

@@ -15,13 +15,14 @@ loop-class-again g c =
 
 pub returns : need.returns
 returns g c =
-    decides-at true _
-    (sym (each-all classes (class-in-order (g .F·Figures .emergencies (c .args .figures .now)) (g .F·Figures .services (c .args .figures .now))) (c .loop-class .class-index) (c .loop-class-test .left)) ∙ c .loop-class .inv)
-    (order-decides (g .F·Figures .emergencies (c .args .figures .now)) (g .F·Figures .services (c .args .figures .now)))
+    let E = g .F·Figures .emergencies (c .args .figures .now) in
+    let D = g .F·Figures .services (c .args .figures .now) in
+    let passed = sym (each-all classes (class-in-order E D) (c .loop-class .class-index) (c .loop-class-test .left)) ∙ c .loop-class .inv in
+    record { test = passed; laws = decides-at true (in-order E D) passed (order-decides E D) }
 
 pub returns-then-not-class-in-order : need.returns-then-not-class-in-order
 returns-then-not-class-in-order g c =
-    decides-at false _
-    (sym (each-fails classes (class-in-order (g .F·Figures .emergencies (c .args .figures .now)) (g .F·Figures .services (c .args .figures .now))) (c .loop-class .class-index) C1
-    (c .loop-class-test .taken) (sym (c .if-not-class-in-order .ensures tt))) ∙ c .loop-class .inv)
-    (order-decides (g .F·Figures .emergencies (c .args .figures .now)) (g .F·Figures .services (c .args .figures .now)))
+    let E = g .F·Figures .emergencies (c .args .figures .now) in
+    let D = g .F·Figures .services (c .args .figures .now) in
+    let failed = sym (each-fails classes (class-in-order E D) (c .loop-class .class-index) C1 (c .loop-class-test .taken) (sym (c .if-not-class-in-order .ensures tt))) ∙ c .loop-class .inv in
+    record { test = failed; laws = decides-at false (in-order E D) failed (order-decides E D) }

@@ -1,7 +1,9 @@
-use Prim.Native.Nat.{ℕ, _<_}
-use lib.ListN.{getD}
-use Rattle.laws.specs.Books.{Metres}
+use mathlib.Core.Path.{_≡_}
+use lib.ListN.{drop}
+use Rattle.laws.specs.Order.{each}
+use Rattle.laws.specs.Judged.{metres}
 use Rattle.laws.proofs.tables.in_range.Given as given
 
-abbrev pub Inv-loop-metres : given.InvT-loop-metres
-Inv-loop-metres l = (i : ℕ) → i < l .metres-index → Metres (getD (l .table) i 0)
+-- what is left of the figures decides
+abbrev pub Inv-loop-figure : given.InvT-loop-figure
+Inv-loop-figure l = each (drop (l .figure-index) (l .table)) metres ≡ each (l .table) metres
