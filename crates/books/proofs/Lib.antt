@@ -1,0 +1,2 @@
+mod Beside
+mod AsPrinted

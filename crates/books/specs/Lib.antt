@@ -1,0 +1,5 @@
+pub mod Printed
+pub mod BookTables
+pub mod PrintedLaws
+pub mod Lent
+pub mod FileBooks
