@@ -8,20 +8,17 @@ use Rattle.std.specs.declared.result.Result.{Result}
 use Rattle.std.specs.declared.result.Result.the-variants.{Ok, Err}
 use Rattle.std.specs.shelf.Lists.{All}
 use Rattle.std.proofs.shelf.Elements.{all-push}
-use Rattle.std.proofs.shelf.Lists.{append-nil, append-assoc, joined-more, length-append, length-set, length-drop, length-replicate, drop-drop, drop-all}
+use Rattle.std.proofs.shelf.Lists.{append-nil, append-assoc, length-append, length-set, length-drop, length-replicate, drop-drop, drop-all}
 use Rattle.codes.specs.declared.refusals.Refusal.{Refusal}
 use Rattle.codes.specs.Refusals.{refuses, notice}
 use Rattle.laws.specs.Questions.{Question, place}
 use Rattle.bookrecords.specs.Records.{Said, states, remarks, spelt, spelling, Possible, Begins}
 use Rattle.bookrecords.specs.Decoding.{decoded}
-use Rattle.bookfile.specs.Files.{given}
+use Rattle.bookrecords.specs.Files.{given}
+use Rattle.bookrecords.proofs.Unique.{spelling-push}
 use Rattle.bookfile.specs.Faults.{Sound, Faulty, damaged, twice}
 use Rattle.bookfile.specs.Entering.{entry, Holds, Entered, Enters, Filled}
 use Rattle.bookfile.proofs.Entries.{holds-none, holds-remark, holds-more, sound-from-holds, entry-some}
-
-pub spelling-push : (rs : List Said) (s : Said) → spelling (rs ++ s ∷ []) ≡ spelling rs ++ spelt s
-unfolding spelling
-spelling-push rs s = sym (joined-more spelt [] rs s)
 
 -- the records before place p were entered into the table xs
 pub record Sofar (file : List ℕ) (p : ℕ) (xs : List ℕ) : Type 0 where
@@ -34,7 +31,7 @@ pub record Sofar (file : List ℕ) (p : ℕ) (xs : List ℕ) : Type 0 where
 
 pub sofar-none : (file : List ℕ) → Sofar file 0 (replicate 594 0)
 unfolding spelling
-sofar-none file = record { records = []; possible = tt; spelt = refl; stands = refl; holds = holds-none; whole = length-replicate 594 0 }
+sofar-none file = record { records = []; possible = tt; spelt = refl; stands = refl; holds = holds-none; whole = let zero : ℕ = 0 in length-replicate 594 zero }
 
 module _ (file : List ℕ) (p : ℕ) (xs : List ℕ) (sofar : Sofar file p xs) where
   sound : Sound (sofar .records)

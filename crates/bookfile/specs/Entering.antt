@@ -18,7 +18,7 @@ use Rattle.codes.specs.Refusals.{notice}
 use Rattle.laws.specs.Questions.{Question, Asks, place}
 use Rattle.bookrecords.specs.Records.{Said, states, remarks, spelling, Possible}
 use Rattle.bookfile.specs.declared.faults.Fault.{Fault}
-use Rattle.bookfile.specs.Files.{given}
+use Rattle.bookrecords.specs.Files.{given}
 use Rattle.bookfile.specs.Faults.{Faulty}
 
 abbrev pub entry : ℕ → List ℕ

@@ -18,7 +18,7 @@ use Rattle.laws.specs.Questions.{Question, Asks, figure, emergency-of, service-
 use Rattle.bookrecords.specs.Records.{Said, states, spelt, spelling, Possible}
 use Rattle.bookrecords.specs.Decoding.{decoded}
 use Rattle.bookfile.specs.declared.faults.Fault.{Fault}
-use Rattle.bookfile.specs.Files.{given, Means}
+use Rattle.bookrecords.specs.Files.{given, Means}
 
 pub record Sound (rs : List Said) : Type 0 where
   pub possible : All Possible rs

@@ -1,4 +1,3 @@
-pub mod Files
 pub mod Faults
 pub mod Entering
 pub mod Shuffles

@@ -13,7 +13,7 @@ use Rattle.std.specs.shelf.Lists.{All}
 use Rattle.laws.specs.Questions.{Question, emergency-of, service-of}
 use Rattle.bookrecords.specs.Records.{Said, states, remarks, spelling, Possible}
 use Rattle.bookfile.specs.declared.faults.Fault.{Fault}
-use Rattle.bookfile.specs.Files.{Means}
+use Rattle.bookrecords.specs.Files.{Means}
 
 unfoldable pub figures : List Said → List (Question × ℕ)
 figures [] = []

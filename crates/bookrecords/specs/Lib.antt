@@ -1,3 +1,4 @@
 pub mod Records
 pub mod Decoding
 pub mod Reading
+pub mod Files
