@@ -1,3 +1,6 @@
 mod Gaps
 mod Entries
 mod Sofar
+mod Endings
+mod Verdicts
+mod Reorders

@@ -37,7 +37,7 @@ fn enter_record(table: &mut [u16], item: Record<'_>) -> Result<(), Refusal>
 }
 
 // Enters all records of a file into an empty table, and stops at the first that is refused.
-pub fn fill(file: &[u8], table: &mut [u16]) -> Result<(), Fault>
+pub(super) fn fill(file: &[u8], table: &mut [u16]) -> Result<(), Fault>
     requires { ⌜ now table ≡ replicate 594 0 ⌝ }
     ensures { λ r. ⌜ Fills (now (file .entry)) r (now (table .exit)) ⌝ }
 {

@@ -120,7 +120,8 @@ impl<'a> Reader<'a> {
     pub fn place(&self) -> usize
         ensures { λ r. ⌜ r ≡ now (self .entry) .place ⌝ }
     {
-        self.place
+        let Reader { place, .. } = self;
+        *place
     }
 
     // The next record, or none at the end of the file. A record is refused by 15 where its bytes are torn, by 16 for its kind and

@@ -2,3 +2,4 @@ mod Each
 pub mod Neighbours
 pub mod Places
 pub mod Fits
+pub mod Agrees
