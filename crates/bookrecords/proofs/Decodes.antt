@@ -285,3 +285,7 @@ begins-within file p s within begins =
     let parts = length-append (spelt s) rest in
     let whole = ap length (begins .spells) in
     omega arith
+
+pub within-from-fronts : (file : List ℕ) (p : ℕ) → p ≤ length file → (r : Result Record Refusal) → Fronts (drop p file) p r → made r (λ item. p + length (spelt (said item)) ≤ length file)
+within-from-fronts file p within (Ok item) front = begins-within file p (said item) within (front .begins)
+within-from-fronts file p within (Err w) told = tt

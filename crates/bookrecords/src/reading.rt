@@ -91,7 +91,8 @@ fn first_record<'a>(bytes: &'a [u8], place: usize) -> Result<Record<'a>, Refusal
 // The record that begins at a place of the file.
 fn record_at<'a>(file: &'a [u8], place: usize) -> Result<Record<'a>, Refusal>
     requires { ⌜ place ≤ length (now file) ⌝ }
-    ensures { λ r. ⌜ Fronts (drop place (now (file .entry))) place r ⌝ }
+    ensures fronts { λ r. ⌜ Fronts (drop place (now (file .entry))) place r ⌝ }
+    ensures within { λ r. ⌜ made r (λ item. place + length (spelt (said item)) ≤ length (now (file .entry))) ⌝ }
 {
     first_record(&file[place..], place)
 }
