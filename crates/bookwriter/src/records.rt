@@ -11,7 +11,7 @@ use codes::Speed;
 
 // A kind 1 record: the emergency distance in metres by class, from and to, the low byte of each number first. In class 3, 417 m
 // from 120 to 100 km/h is 07 00 01 00 03 78 64 A1 01.
-pub fn emergency_record(class: Class, from: Speed, to: Code, metres: u16) -> [u8; 9]
+pub(super) fn emergency_record(class: Class, from: Speed, to: Code, metres: u16) -> [u8; 9]
     ensures { λ r. ⌜ r ≡ spelt (states (emergency class from to) metres) ⌝ }
 {
     let low = (metres % 256) as u8;
@@ -20,7 +20,7 @@ pub fn emergency_record(class: Class, from: Speed, to: Code, metres: u16) -> [u8
 }
 
 // A kind 2 record: the service distance in metres by class and from, the low byte of each number first.
-pub fn service_record(class: Class, from: Speed, metres: u16) -> [u8; 8]
+pub(super) fn service_record(class: Class, from: Speed, metres: u16) -> [u8; 8]
     ensures { λ r. ⌜ r ≡ spelt (states (service class from) metres) ⌝ }
 {
     let low = (metres % 256) as u8;
@@ -29,7 +29,7 @@ pub fn service_record(class: Class, from: Speed, metres: u16) -> [u8; 8]
 }
 
 // Puts a record into the buffer from place `at` on, and answers the place behind it.
-pub fn put(buffer: &mut [u8], at: usize, item: &[u8]) -> usize
+pub(super) fn put(buffer: &mut [u8], at: usize, item: &[u8]) -> usize
     requires { ⌜ at + length (now item) ≤ length (now buffer) ⌝ }
     ensures { λ r. ⌜ Wrote (now (buffer .entry)) at (now (item .entry)) (now (buffer .exit)) r ⌝ }
 {
