@@ -50,12 +50,12 @@ module _ (xs : List ℕ) (rs : List Said) (holds : Holds xs rs) where
     pub holds-more : Holds (set xs (place q) m) (rs ++ states q m ∷ [])
     holds-more p asks′ =
         elim (cases-bool (same p q)) [
-          inl level ↦
-            let e = eqb-true (place p) (place q) level in
-            let none : given p rs ≡ [] = holds p asks′ ∙ ap entry (ap (λ i. getD xs i 0) e ∙ free) in
-            let new : getD (set xs (place q) m) (place p) 0 ≡ m = ap (λ i. getD (set xs (place q) m) i 0) e ∙ getD-set-same xs (place q) m 0 here in
-            given-same p q m rs e ∙ ap (λ ys. ys ++ m ∷ []) none ∙ sym (ap entry new ∙ entry-some m (within .0))
-        | inr other ↦
-            let apart = eqb-false (place p) (place q) other in
-            given-other p q m rs apart ∙ holds p asks′ ∙ sym (ap entry (getD-set-other xs (place q) (place p) m 0 apart))
+          | inl level ↦
+              let e = eqb-true (place p) (place q) level in
+              let none : given p rs ≡ [] = holds p asks′ ∙ ap entry (ap (λ i. getD xs i 0) e ∙ free) in
+              let new : getD (set xs (place q) m) (place p) 0 ≡ m = ap (λ i. getD (set xs (place q) m) i 0) e ∙ getD-set-same xs (place q) m 0 here in
+              given-same p q m rs e ∙ ap (λ ys. ys ++ m ∷ []) none ∙ sym (ap entry new ∙ entry-some m (within .0))
+          | inr other ↦
+              let apart = eqb-false (place p) (place q) other in
+              given-other p q m rs apart ∙ holds p asks′ ∙ sym (ap entry (getD-set-other xs (place q) (place p) m 0 apart))
         ]

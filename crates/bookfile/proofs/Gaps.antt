@@ -31,8 +31,8 @@ unfolding has-gap
 gap-place [] e = absurd (let z : _≡_ {A = ℕ} 0 1 = cc in omega arith)
 gap-place (x ∷ xs) e =
     elim (or-cases (eqb x 0) (has-gap xs) e) [
-      inl here ↦ (0, (omega arith, eqb-true x 0 here))
-    | inr further ↦ let found = gap-place xs further in (suc (found .0), (omega arith, found .1 .1))
+      | inl here ↦ (0, (omega arith, eqb-true x 0 here))
+      | inr further ↦ let found = gap-place xs further in (suc (found .0), (omega arith, found .1 .1))
     ]
 
 -- a table without a gap has a figure at each place

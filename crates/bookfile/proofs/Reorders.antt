@@ -75,7 +75,7 @@ means-reordered file file′ E D means short reordered =
       spelt = reordered .spelt′;
       possible = reordered .possible′;
       once = λ q asks.
-        once-shuffled (reordered .records) (reordered .records′) (reordered .shuffled) q (figure E D q) (ap (given q) records ∙ means .once q asks);
+          once-shuffled (reordered .records) (reordered .records′) (reordered .shuffled) q (figure E D q) (ap (given q) records ∙ means .once q asks);
       laws = means .laws;
     }
 

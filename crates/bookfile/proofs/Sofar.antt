@@ -64,9 +64,9 @@ module _ (file : List ℕ) (p : ℕ) (xs : List ℕ) (sofar : Sofar file p xs) w
       records = sofar .records ++ s ∷ [];
       possible = all-push Possible (sofar .records) s (sofar .possible) (begins .possible);
       spelt =
-        parts ∙ ap (λ n. spelling (sofar .records) ++ (spelt s ++ drop n file)) (sym moved)
-        ∙ sym (append-assoc (spelling (sofar .records)) (spelt s) (drop p′ file))
-        ∙ ap (λ ys. ys ++ drop p′ file) (sym (spelling-push (sofar .records) s));
+          parts ∙ ap (λ n. spelling (sofar .records) ++ (spelt s ++ drop n file)) (sym moved)
+          ∙ sym (append-assoc (spelling (sofar .records)) (spelt s) (drop p′ file))
+          ∙ ap (λ ys. ys ++ drop p′ file) (sym (spelling-push (sofar .records) s));
       stands = moved ∙ ap (λ n. n + length (spelt s)) (sofar .stands) ∙ sym (length-append (spelling (sofar .records)) (spelt s)) ∙ ap length (sym (spelling-push (sofar .records) s));
       holds = holds;
       whole = whole;

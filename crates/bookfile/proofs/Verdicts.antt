@@ -70,12 +70,13 @@ module _ (file : List ℕ) (E : Emergencies) (D : Services) (means : Means file 
       let one = ap length (sym none ∙ ap (given q) (sym (whole rs sound e)) ∙ means .once q asks) in omega arith
   faulty-means n p (order rs E′ D′ sound e figures broken) =
       broken (same-laws E E′ D D′ (λ q asks.
-        let both : figure E D q ∷ [] ≡ figure E′ D′ q ∷ [] = sym (means .once q asks) ∙ ap (given q) (whole rs sound e) ∙ figures q asks in cc) (means .laws))
+      let both : figure E D q ∷ [] ≡ figure E′ D′ q ∷ [] = sym (means .once q asks) ∙ ap (given q) (whole rs sound e) ∙ figures q asks in cc) (means .laws))
 
 -- ---- accepted exactly if it is that of a book
 
 pub exactly-from-read : (file before : List ℕ) (r : Result (Unit {0}) Fault) (after : List ℕ) → Read file before r after → Decides (isOk r) (Acceptable file before)
 exactly-from-read file before (Ok done) after accepted = (λ e. (accepted .size, (_, (_, accepted .means))), λ acceptable. refl)
-exactly-from-read file before (Err fault) after refused =
-    (λ e. absurd (let z : _≡_ {A = ℕ} 0 1 = cc in omega arith),
-    λ acceptable. absurd (faulty-means file (acceptable .1 .0) (acceptable .1 .1 .0) (acceptable .1 .1 .1) _ _ (refused .fault (acceptable .0) .0)))
+exactly-from-read file before (Err fault) after refused = (
+  λ e. absurd (let z : _≡_ {A = ℕ} 0 1 = cc in omega arith),
+  λ acceptable. absurd (faulty-means file (acceptable .1 .0) (acceptable .1 .1 .0) (acceptable .1 .1 .1) _ _ (refused .fault (acceptable .0) .0)),
+)

@@ -30,8 +30,17 @@ fn enter_record(table: &mut [u16], item: Record<'_>) -> Result<(), Refusal>
     ensures { λ r. ⌜ Enters (now (table .entry)) (said (item .entry)) r (now (table .exit)) ⌝ }
 {
     match item {
-        Record::Emergency { class, from, to, metres } => enter(table, emergency_place(class, from, to), metres),
-        Record::Service { class, from, metres } => enter(table, service_place(class, from), metres),
+        Record::Emergency {
+            class,
+            from,
+            to,
+            metres,
+        } => enter(table, emergency_place(class, from, to), metres),
+        Record::Service {
+            class,
+            from,
+            metres,
+        } => enter(table, service_place(class, from), metres),
         Record::Remark { .. } => Ok(()),
     }
 }

@@ -85,11 +85,11 @@ numbered-is : {X : Type 0} (f : X → ℕ) (n : ℕ) (xs : List X) (x : X) → n
 numbered-is f n [] x e = let z : f x ≡ n = cc in z
 numbered-is f n (y ∷ ys) x e =
     elim (cases-bool (eqb (f y) n)) [
-      inl here ↦
-        let found : Some y ≡ Some x = sym (cond-true (eqb (f y) n) (Some y) (numbered f n ys) here) ∙ e in
-        let same : y ≡ x = cc in
-        sym (ap f same) ∙ eqb-true (f y) n here
-    | inr past ↦ numbered-is f n ys x (sym (cond-false (eqb (f y) n) (Some y) (numbered f n ys) past) ∙ e)
+      | inl here ↦
+          let found : Some y ≡ Some x = sym (cond-true (eqb (f y) n) (Some y) (numbered f n ys) here) ∙ e in
+          let same : y ≡ x = cc in
+          sym (ap f same) ∙ eqb-true (f y) n here
+      | inr past ↦ numbered-is f n ys x (sym (cond-false (eqb (f y) n) (Some y) (numbered f n ys) past) ∙ e)
     ]
 
 -- ---- what is spelt decodes
@@ -110,7 +110,7 @@ decoded-spelt (states (emergency k from to) m) (below, within) t =
     ∙ all-known (speed-of (kmh from)) from _ (speed-back from)
     ∙ all-known (code-of (byte to)) to _ (code-back to)
     ∙ cond-true (lower to (Go from) && metres (number-at bytes 7)) _ _
-      (and-from (lower to (Go from)) (metres (number-at bytes 7)) (lt-ltb _ _ below) (ap metres far ∙ metres-pass m within))
+    (and-from (lower to (Go from)) (metres (number-at bytes 7)) (lt-ltb _ _ below) (ap metres far ∙ metres-pass m within))
     ∙ ap (λ n. gives (states (emergency k from to) n)) far
 decoded-spelt (states (service k from) m) (asks, within) t =
     let bytes = spelt (states (service k from) m) ++ t in
@@ -204,9 +204,9 @@ module _ (bytes : List ℕ) (fit : (i : ℕ) → getD bytes i 0 < 256) where
         subst (Begins bytes) (said .1) (record {
           possible = (ltb-true _ _ (tests .0), metres-within (number-at bytes 7) (tests .1));
           spells = emergency-spells (class .0) (from .0) (to .0) long size kind
-            (numbered-is number (getD bytes 4 0) classes (class .0) (class .1 .0))
-            (numbered-is kmh (getD bytes 5 0) speeds (from .0) (from .1 .0))
-            (numbered-is byte (getD bytes 6 0) codes (to .0) (to .1 .0));
+              (numbered-is number (getD bytes 4 0) classes (class .0) (class .1 .0))
+              (numbered-is kmh (getD bytes 5 0) speeds (from .0) (from .1 .0))
+              (numbered-is byte (getD bytes 6 0) codes (to .0) (to .1 .0));
         })
 
     service-begins : 8 ≤ length bytes → number-at bytes 0 ≡ 6 → number-at bytes 2 ≡ 2 → service-said bytes ≡ gives s → Begins bytes s
@@ -217,8 +217,8 @@ module _ (bytes : List ℕ) (fit : (i : ℕ) → getD bytes i 0 < 256) where
         subst (Begins bytes) (said .1) (record {
           possible = (tt, metres-within (number-at bytes 6) (said .0));
           spells = service-spells (class .0) (from .0) long size kind
-            (numbered-is number (getD bytes 4 0) classes (class .0) (class .1 .0))
-            (numbered-is kmh (getD bytes 5 0) speeds (from .0) (from .1 .0));
+              (numbered-is number (getD bytes 4 0) classes (class .0) (class .1 .0))
+              (numbered-is kmh (getD bytes 5 0) speeds (from .0) (from .1 .0));
         })
 
     remark-begins : 2 ≤ number-at bytes 0 → 2 + number-at bytes 0 ≤ length bytes → number-at bytes 2 ≡ 3 → remark-said bytes ≡ gives s → Begins bytes s
@@ -244,32 +244,32 @@ module _ (bytes : List ℕ) (fit : (i : ℕ) → getD bytes i 0 < 256) where
         let there = whole-parts whole in
         let at-kind = sym (cond-false (torn bytes) _ _ whole) ∙ e in
         elim (cases-bool (eqb (number-at bytes 2) 1 && eqb (number-at bytes 0) 7)) [
-          inl one ↦
-            let tests = and-parts (eqb (number-at bytes 2) 1) (eqb (number-at bytes 0) 7) one in
-            let kind = eqb-true _ _ (tests .0) in let size = eqb-true _ _ (tests .1) in
-            emergency-begins (omega arith) size kind (sym (cond-true _ _ _ one) ∙ at-kind)
-        | inr not-one ↦
-            let past-one = sym (cond-false _ _ _ not-one) ∙ at-kind in
-            elim (cases-bool (eqb (number-at bytes 2) 2 && eqb (number-at bytes 0) 6)) [
-              inl two ↦
-                let tests = and-parts (eqb (number-at bytes 2) 2) (eqb (number-at bytes 0) 6) two in
-                let kind = eqb-true _ _ (tests .0) in let size = eqb-true _ _ (tests .1) in
-                service-begins (omega arith) size kind (sym (cond-true _ _ _ two) ∙ past-one)
-            | inr not-two ↦
-                let past-two = sym (cond-false _ _ _ not-two) ∙ past-one in
-                elim (cases-bool (eqb (number-at bytes 2) 3)) [
-                  inl three ↦ remark-begins (there .0) (there .1) (eqb-true _ _ three) (sym (cond-true _ _ _ three) ∙ past-two)
-                | inr not-three ↦ absurd (given-not-refused s (16, []) (sym (cond-false _ _ _ not-three) ∙ past-two))
-                ]
-            ]
+          | inl one ↦
+              let tests = and-parts (eqb (number-at bytes 2) 1) (eqb (number-at bytes 0) 7) one in
+              let kind = eqb-true _ _ (tests .0) in let size = eqb-true _ _ (tests .1) in
+              emergency-begins (omega arith) size kind (sym (cond-true _ _ _ one) ∙ at-kind)
+          | inr not-one ↦
+              let past-one = sym (cond-false _ _ _ not-one) ∙ at-kind in
+              elim (cases-bool (eqb (number-at bytes 2) 2 && eqb (number-at bytes 0) 6)) [
+                | inl two ↦
+                    let tests = and-parts (eqb (number-at bytes 2) 2) (eqb (number-at bytes 0) 6) two in
+                    let kind = eqb-true _ _ (tests .0) in let size = eqb-true _ _ (tests .1) in
+                    service-begins (omega arith) size kind (sym (cond-true _ _ _ two) ∙ past-one)
+                | inr not-two ↦
+                    let past-two = sym (cond-false _ _ _ not-two) ∙ past-one in
+                    elim (cases-bool (eqb (number-at bytes 2) 3)) [
+                      | inl three ↦ remark-begins (there .0) (there .1) (eqb-true _ _ three) (sym (cond-true _ _ _ three) ∙ past-two)
+                      | inr not-three ↦ absurd (given-not-refused s (16, []) (sym (cond-false _ _ _ not-three) ∙ past-two))
+                    ]
+              ]
         ]
 
     -- the bytes that decode begin with the record that says it
     pub decoded-begins : decoded bytes ≡ gives s → Begins bytes s
     decoded-begins e =
         elim (cases-bool (torn bytes)) [
-          inl tear ↦ absurd (given-not-refused s (15, []) (sym (cond-true (torn bytes) _ _ tear) ∙ e))
-        | inr whole ↦ kind-begins whole e
+          | inl tear ↦ absurd (given-not-refused s (15, []) (sym (cond-true (torn bytes) _ _ tear) ∙ e))
+          | inr whole ↦ kind-begins whole e
         ]
 
 -- what is told of the record at the front, and where its remark begins

@@ -45,7 +45,12 @@ fn emergency_record<'a>(bytes: &[u8]) -> Result<Record<'a>, Refusal>
     if !to.is_below(Code::Go(from)) || !is_distance(metres) {
         return Err(entry);
     }
-    Ok(Record::Emergency { class, from, to, metres })
+    Ok(Record::Emergency {
+        class,
+        from,
+        to,
+        metres,
+    })
 }
 
 // A kind 2 record of eight bytes.
@@ -61,7 +66,11 @@ fn service_record<'a>(bytes: &[u8]) -> Result<Record<'a>, Refusal>
     if !is_distance(metres) {
         return Err(entry);
     }
-    Ok(Record::Service { class, from, metres })
+    Ok(Record::Service {
+        class,
+        from,
+        metres,
+    })
 }
 
 // The record at the front of the bytes, which begin at `place` of the file.

@@ -20,5 +20,8 @@ pub enum Record<'a> {
         metres: u16,
     },
     // Kind 3: a remark of any bytes, lent from the file, and the place in the file where they begin.
-    Remark { place: usize, bytes: &'a [u8] },
+    Remark {
+        place: usize,
+        bytes: &'a [u8],
+    },
 }

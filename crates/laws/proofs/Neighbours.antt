@@ -116,11 +116,11 @@ module _ {X : Type 0} (place : X → ℕ) (next : X → Option X)
   climbs zero a b e step = let h : place a ≡ place b = omega arith in subst (λ x. R (F a) (F x)) (same a b h) (level (F a))
   climbs (suc n) a b e step =
       elim (found (next a)) [
-        inl none ↦ absurd (let highest = top a b none in omega arith)
-      | inr one ↦
-          let further = next-place a (one .0) (one .1) in
-          join (F a) (F (one .0)) (F b) (step a (one .0) (omega arith) (omega arith) (one .1))
-          (climbs n (one .0) b (omega arith) (λ x y l m. step x y (omega arith) m))
+        | inl none ↦ absurd (let highest = top a b none in omega arith)
+        | inr one ↦
+            let further = next-place a (one .0) (one .1) in
+            join (F a) (F (one .0)) (F b) (step a (one .0) (omega arith) (omega arith) (one .1))
+            (climbs n (one .0) b (omega arith) (λ x y l m. step x y (omega arith) m))
       ]
 
 up-speeds : (F : Speed → ℕ) (a b : Speed) → kmh a ≤ kmh b → ((x y : Speed) → kmh a ≤ kmh x → next-speed x ≡ Some y → F x ≤ F y) → F a ≤ F b
@@ -167,7 +167,7 @@ module _ (E : Emergencies) (D : Services) (ordered : in-order E D ≡ true) wher
       let rises = next-code-place low high e in
       let under = byte-rises low high (omega arith) in
       let passes = due-at (next-code low) high (λ to. not (lower to (Go from)) || leb (E k from to) (E k from low)) e
-            (and-parts (next-to-kept E k from low) (next-from-kept E k from low) (emergency-parts k from low (omega arith) .0) .0) in
+      (and-parts (next-to-kept E k from low) (next-from-kept E k from low) (emergency-parts k from low (omega arith) .0) .0) in
       leb-true _ _ (guarded (lower high (Go from)) (leb (E k from high) (E k from low)) (lt-ltb (byte high) (kmh from) l) passes)
 
   from-step : (k : Class) (low high : Speed) (to : Code) → byte to < kmh low → next-speed low ≡ Some high → E k low to ≤ E k high to
@@ -186,10 +186,10 @@ module _ (E : Emergencies) (D : Services) (ordered : in-order E D ≡ true) wher
     higher-to = λ k from low high l m. down-codes (E k from) low high l (λ x y under e. to-step k from x y (omega arith) e);
     higher-from = λ k low high to l m. up-speeds (λ from. E k from to) low high m (λ x y above e. from-step k x y to (omega arith) e);
     higher-service = λ k low high l.
-      up-speeds (D k) low high l (λ x y above e. leb-true _ _ (due-at (next-speed x) y (λ from. leb (D k x) (D k from)) e (service-parts k x .0)));
+        up-speeds (D k) low high l (λ x y above e. leb-true _ _ (due-at (next-speed x) y (λ from. leb (D k x) (D k from)) e (service-parts k x .0)));
     steeper-emergency = λ j k from to l m. up-classes (λ i. E i from to) j k l (λ x y e. class-step x y from to m e);
     steeper-service = λ j k from l.
-      up-classes (λ i. D i from) j k l (λ x y e. leb-true _ _ (due-at (next-class x) y (λ i. leb (D x from) (D i from)) e (service-parts x from .1)));
+        up-classes (λ i. D i from) j k l (λ x y e. leb-true _ _ (due-at (next-class x) y (λ i. leb (D x from) (D i from)) e (service-parts x from .1)));
   }
 
 -- ---- the test from the laws
@@ -208,21 +208,21 @@ module _ (E : Emergencies) (D : Services) (laws : Laws E D) where
       and-from (next-to-kept E k from to && next-from-kept E k from to) (next-class-kept E k from to)
       (and-from (next-to-kept E k from to) (next-from-kept E k from to)
       (due-from (next-code to) (λ high. not (lower high (Go from)) || leb (E k from high) (E k from to)) (λ high e.
-        let place = next-code-place to high e in
-        unguarded (lower high (Go from)) (leb (E k from high) (E k from to)) (λ under.
-        le-leb _ _ (laws .higher-to k from to high (byte-rises to high (omega arith)) (ltb-true _ _ under)))))
+      let place = next-code-place to high e in
+      unguarded (lower high (Go from)) (leb (E k from high) (E k from to)) (λ under.
+      le-leb _ _ (laws .higher-to k from to high (byte-rises to high (omega arith)) (ltb-true _ _ under)))))
       (due-from (next-speed from) (λ high. leb (E k from to) (E k high to)) (λ high e.
-        let place = next-speed-place from high e in le-leb _ _ (laws .higher-from k from high to l (kmh-rises from high (omega arith))))))
+      let place = next-speed-place from high e in le-leb _ _ (laws .higher-from k from high to l (kmh-rises from high (omega arith))))))
       (due-from (next-class k) (λ steeper. leb (E k from to) (E steeper from to)) (λ steeper e.
-        let place = next-class-place k steeper e in le-leb _ _ (laws .steeper-emergency k steeper from to (omega arith) l)))
+      let place = next-class-place k steeper e in le-leb _ _ (laws .steeper-emergency k steeper from to (omega arith) l)))
 
   service-kept : (k : Class) (from : Speed) → service-in-order D k from ≡ true
   service-kept k from =
       and-from (service-from-kept D k from) (service-class-kept D k from)
       (due-from (next-speed from) (λ high. leb (D k from) (D k high)) (λ high e.
-        let place = next-speed-place from high e in le-leb _ _ (laws .higher-service k from high (kmh-rises from high (omega arith)))))
+      let place = next-speed-place from high e in le-leb _ _ (laws .higher-service k from high (kmh-rises from high (omega arith)))))
       (due-from (next-class k) (λ steeper. leb (D k from) (D steeper from)) (λ steeper e.
-        let place = next-class-place k steeper e in le-leb _ _ (laws .steeper-service k steeper from (omega arith))))
+      let place = next-class-place k steeper e in le-leb _ _ (laws .steeper-service k steeper from (omega arith))))
 
   pub order-from-laws : in-order E D ≡ true
   order-from-laws =

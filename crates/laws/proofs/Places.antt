@@ -64,10 +64,10 @@ same-row : (v w : Speed) (a b : Code) → byte a < kmh v → byte b < kmh w → 
 same-row v w a b l m e =
     let x = rank-below a v l in let y = rank-below b w m in
     elim (cases-order (column v) (column w)) [
-      inl level ↦ same-speed v w level
-    | inr apart ↦ elim apart [
-        inl under ↦ absurd (let z = before-apart v w under in omega arith)
-      | inr over ↦ absurd (let z = before-apart w v over in omega arith)
+      | inl level ↦ same-speed v w level
+      | inr apart ↦ elim apart [
+        | inl under ↦ absurd (let z = before-apart v w under in omega arith)
+        | inr over ↦ absurd (let z = before-apart w v over in omega arith)
       ]
     ]
 

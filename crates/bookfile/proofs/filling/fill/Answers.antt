@@ -20,9 +20,11 @@ of-file : (kept file : List ℕ) → kept ≡ file → (p p′ : ℕ) (found r :
 of-file kept file same p p′ found r is hands = subst (λ f. Hands f p (Ok r) p′) same (subst (λ o. Hands kept p (Ok o) p′) is hands)
 
 pub records-holds : need.records-holds
-records-holds c =
-    (c .new-reader .ensures .file, subst (λ p. Sofar (c .args .file .now) p (c .args .table .now)) (sym (c .new-reader .ensures .place))
-    (subst (Sofar (c .args .file .now) 0) (sym (c .pre)) (sofar-none (c .args .file .now))))
+records-holds c = (
+  c .new-reader .ensures .file,
+  subst (λ p. Sofar (c .args .file .now) p (c .args .table .now)) (sym (c .new-reader .ensures .place))
+      (subst (Sofar (c .args .file .now) 0) (sym (c .pre)) (sofar-none (c .args .file .now))),
+)
 
 pub returns-in-Err : need.returns-in-Err
 returns-in-Err c =
@@ -54,6 +56,7 @@ records-again c =
     let inv = c .records .inv in
     let place = c .records .reader .place in
     let item = c .in-Some .item in
-    let hands = of-file (c .records .reader .file .now) (c .args .file .now) (inv .0) place (c .next .last .self .place) (c .in-Ok .read) (Some item) (c .in-Some .is) (c .in-Ok .ensures tt .hands) in
-    (c .in-Ok .ensures tt .same ∙ inv .0,
-    sofar-more (c .args .file .now) place (c .records .table) (inv .1) (said item) (hands .front .begins) (c .next .last .self .place) (hands .moved) (c .enter-record .last .table) (c .in-rest .ensures tt))
+    let hands = of-file (c .records .reader .file .now) (c .args .file .now) (inv .0) place (c .next .last .self .place) (c .in-Ok .read) (Some item) (c .in-Some .is) (c .in-Ok .ensures tt .hands) in (
+      c .in-Ok .ensures tt .same ∙ inv .0,
+      sofar-more (c .args .file .now) place (c .records .table) (inv .1) (said item) (hands .front .begins) (c .next .last .self .place) (hands .moved) (c .enter-record .last .table) (c .in-rest .ensures tt),
+    )

@@ -12,12 +12,16 @@ returns-then-has-gap c =
 
 pub returns-then-not-keeps-laws : need.returns-then-not-keeps-laws
 returns-then-not-keeps-laws c =
-    let whole : length (c .fill .last .table) ≡ 594 = search needs in
-    (whole, order-faulty (c .args .file .now) (c .fill .last .table) (c .in-Ok .ensures tt) whole (sym (c .if-has-gap .ensures tt))
-    (not-from-decides _ (c .keeps-laws .ensures .laws) (c .if-not-keeps-laws .taken)))
+    let whole : length (c .fill .last .table) ≡ 594 = search needs in (
+      whole,
+      order-faulty (c .args .file .now) (c .fill .last .table) (c .in-Ok .ensures tt) whole (sym (c .if-has-gap .ensures tt))
+          (not-from-decides _ (c .keeps-laws .ensures .laws) (c .if-not-keeps-laws .taken)),
+    )
 
 pub returns-else-not-keeps-laws : need.returns-else-not-keeps-laws
 returns-else-not-keeps-laws c =
-    let whole : length (c .fill .last .table) ≡ 594 = search needs in
-    (whole, means-from-filled (c .args .file .now) (c .fill .last .table) (c .in-Ok .ensures tt) whole (sym (c .if-has-gap .ensures tt))
-    (c .pre .short) (c .keeps-laws .ensures .laws .0 (c .if-not-keeps-laws .left)))
+    let whole : length (c .fill .last .table) ≡ 594 = search needs in (
+      whole,
+      means-from-filled (c .args .file .now) (c .fill .last .table) (c .in-Ok .ensures tt) whole (sym (c .if-has-gap .ensures tt))
+          (c .pre .short) (c .keeps-laws .ensures .laws .0 (c .if-not-keeps-laws .left)),
+    )

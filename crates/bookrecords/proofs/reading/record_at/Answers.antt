@@ -14,6 +14,6 @@ returns c =
     let place = c .args .place in
     let rest : take (length file - place) (drop place file) ≡ drop place file = take-rest file place in
     let fronts =
-          fronts-from-told (drop place file) (λ i. let fits = c .typed .file (place + i) in let at = getD-drop place file i 0 in omega arith) place (c .first-record .result)
-          (c .first-record .ensures .said ∙ ap decoded rest) (c .first-record .ensures .placed) in
+    fronts-from-told (drop place file) (λ i. let fits = c .typed .file (place + i) in let at = getD-drop place file i 0 in omega arith) place (c .first-record .result)
+    (c .first-record .ensures .said ∙ ap decoded rest) (c .first-record .ensures .placed) in
     record { fronts = fronts; within = within-from-fronts file place (c .pre) (c .first-record .result) fronts }
