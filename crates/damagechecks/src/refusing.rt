@@ -2,7 +2,7 @@
 use super::damage::Case;
 use super::damage::Damage;
 use super::damage::damaged;
-use super::layout::RECORDS;
+use booklayout::RECORDS;
 use bookfile::Fault;
 use bookfile::read;
 use std::alloc::Global;

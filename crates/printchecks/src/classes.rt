@@ -3,7 +3,7 @@ use codes::Class;
 
 // Faldtal in tenths of a permille, and the class that is due; 0 where there is none and the number is refused.
 #[rattlefmt::skip]
-pub const FALDTAL: [(i32, u8); 27] = [
+const FALDTAL: [(i32, u8); 27] = [
     (-2_147_483_648, 0), (2_147_483_647, 0), (351, 0), (350, 1), (0, 1),
     (-25, 1), (-26, 2),
     (-50, 2), (-51, 3),
@@ -17,6 +17,11 @@ pub const FALDTAL: [(i32, u8); 27] = [
     (-275, 10), (-276, 11),
     (-350, 11), (-351, 0),
 ];
+
+// All cases.
+pub fn cases() -> &'static [(i32, u8)] {
+    &FALDTAL
+}
 
 // Whether the faldtal is of the class, or refused by 5 where that is due.
 pub fn is_of_class(faldtal: i32, class: u8) -> bool {

@@ -1,6 +1,6 @@
 // Files damaged at a record, the refusal that is due to each, and its place. Nothing here is asked of the library.
-use super::layout::Parts;
-use super::layout::cut;
+use booklayout::Parts;
+use booklayout::cut;
 use std::alloc::Global;
 use std::error::AnyError;
 
@@ -34,7 +34,7 @@ pub struct Case(pub usize, pub Damage, pub u8, pub usize);
 // Record 0 is E(1, 30, stop) at byte 0, 297 is E(6, 90, 80) at 2,628, 584 is E(11, 120, 100) at 5,166, and 593 is D(11, 120)
 // at 5,239. Emergency records have nine bytes and service records eight.
 #[rattlefmt::skip]
-pub const CASES: [Case; 64] = [
+const CASES: [Case; 64] = [
     // a table or a file of another size; the largest file is accepted
     Case(0, Damage::Table(0), 10, 0),
     Case(0, Damage::Table(593), 10, 0),
@@ -107,6 +107,11 @@ pub const CASES: [Case; 64] = [
     Case(593, Damage::Metres(1), 20, 5_247),
     Case(593, Damage::Metres(4_095), 0, 0),
 ];
+
+// All cases.
+pub fn cases() -> &'static [Case] {
+    &CASES
+}
 
 // Puts a byte at a place where there is one.
 fn put(bytes: &mut [u8], place: usize, byte: u8) {

@@ -1,0 +1,57 @@
+// Tests of writing a book as a file and of reading it back, against the example file.
+mod written;
+
+use booklayout::cut;
+use std::error::AnyError;
+use std::fs;
+
+// The written book: its bytes, the buffers that are refused, and the way back.
+fn tell_written(rt: &LibcRuntime, file: &[u8]) -> Result<(), AnyError> {
+    let heap = rt.alloc();
+    let example = fs::read(rt, "published.book")?;
+    let size = file.len();
+    let is_same = example.as_slice() == file;
+    println!(
+        rt,
+        "written book: {size} bytes, as the example file: {is_same}"
+    )?;
+    let is_there = cut(file, 152).item == b"\x07\x00\x01\x00\x03\x78\x64\xa1\x01";
+    println!(
+        rt,
+        "417 m from 120 to 100 in class 3 is 07 00 01 00 03 78 64 A1 01: {is_there}"
+    )?;
+    let is_short_refused = written::refuses_buffer(heap, 5_246)?;
+    let is_long_refused = written::refuses_buffer(heap, 5_248)?;
+    println!(
+        rt,
+        "buffers of 5246 and 5248 bytes are refused: {is_short_refused} {is_long_refused}"
+    )?;
+    let back = written::figures_back(file);
+    println!(rt, "written and read back: {back} figures equal")?;
+    Ok(())
+}
+
+// The records in another order, with remarks between.
+fn tell_shuffled(rt: &LibcRuntime, file: &[u8]) -> Result<(), AnyError> {
+    let heap = rt.alloc();
+    let other = written::shuffled(heap, file)?;
+    let back = written::figures_back(other.as_slice());
+    println!(rt, "shuffled with remarks: {back} figures equal")?;
+    let places = written::remarks(heap, other.as_slice())?;
+    print!(rt, "remarks at")?;
+    for place in places.iter() {
+        print!(rt, " {place}")?;
+    }
+    println!(rt, "")?;
+    Ok(())
+}
+
+fn run(rt: &LibcRuntime) -> Result<(), AnyError> {
+    let file = written::published(rt.alloc())?;
+    tell_written(rt, file.as_slice())?;
+    tell_shuffled(rt, file.as_slice())
+}
+
+fn main(rt: LibcRuntime) -> Result<(), AnyError> {
+    rt.report(run(&rt))
+}
