@@ -1,8 +1,8 @@
 // The published book as a file: its bytes, the way back, and the same records in another order with remarks between.
+use bookfile::read;
 use booklayout::RECORDS;
 use booklayout::WRITTEN_SIZE;
 use booklayout::cut;
-use bookfile::read;
 use bookrecords::Reader;
 use bookrecords::Record;
 use books::BrakingBook;

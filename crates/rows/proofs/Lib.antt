@@ -1,0 +1,9 @@
+mod Bytes
+mod Positions
+mod Marks
+mod Higher
+mod Grounds
+mod Settles
+mod Stopped
+mod Beside
+mod Looks

@@ -1,0 +1,6 @@
+pub mod Targets
+pub mod Finding
+pub mod Passing
+pub mod WorkingOut
+pub mod WorkedOut
+pub mod Examining

@@ -1,0 +1,4 @@
+pub mod Descent
+pub mod UpToTop
+pub mod Lowest
+pub mod Limited
