@@ -1,8 +1,8 @@
 // The published book as a file: its bytes, the way back, and the same records in another order with remarks between.
+use super::layout::RECORDS;
+use super::layout::WRITTEN_SIZE;
+use super::layout::cut;
 use bookfile::read;
-use booklayout::RECORDS;
-use booklayout::WRITTEN_SIZE;
-use booklayout::cut;
 use bookrecords::Reader;
 use bookrecords::Record;
 use books::BrakingBook;

@@ -2,9 +2,9 @@
 use super::damage::Case;
 use super::damage::Damage;
 use super::damage::damaged;
+use super::layout::RECORDS;
 use bookfile::Fault;
 use bookfile::read;
-use booklayout::RECORDS;
 use std::alloc::Global;
 use std::error::AnyError;
 

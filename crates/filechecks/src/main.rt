@@ -1,7 +1,15 @@
-// Tests of writing a book as a file and of reading it back, against the example file.
+// Tests of book files: a written book against the example file and the way back, and files damaged here, each held to the refusal
+// and the place that are due.
+mod damage;
+mod layout;
+mod refusing;
 mod written;
 
-use booklayout::cut;
+use damage::Case;
+use damage::Damage;
+use damage::cases;
+use layout::cut;
+use refusing::is_as_due;
 use std::error::AnyError;
 use std::fs;
 
@@ -46,10 +54,40 @@ fn tell_shuffled(rt: &LibcRuntime, file: &[u8]) -> Result<(), AnyError> {
     Ok(())
 }
 
+// The damaged files: how many are refused as is due, and which are not.
+fn tell_damaged(rt: &LibcRuntime, file: &[u8]) -> Result<(), AnyError> {
+    let mut as_due: usize = 0;
+    for case in cases() {
+        if is_as_due(rt.alloc(), file, *case)? {
+            as_due = as_due.saturating_add(1);
+        } else {
+            let record = case.0;
+            let number = case.2;
+            let place = case.3;
+            println!(
+                rt,
+                "  not refused as due: record {record}, refusal {number}, place {place}"
+            )?;
+        }
+    }
+    let count = cases().len();
+    println!(rt, "damaged files: {as_due} of {count} as due")?;
+    Ok(())
+}
+
+// A record from 45 km/h is no record.
+fn tell_45(rt: &LibcRuntime, file: &[u8]) -> Result<(), AnyError> {
+    let is_refused = is_as_due(rt.alloc(), file, Case(297, Damage::From(45), 17, 2_628))?;
+    println!(rt, "a record from 45 is refused by 17: {is_refused}")?;
+    Ok(())
+}
+
 fn run(rt: &LibcRuntime) -> Result<(), AnyError> {
     let file = written::published(rt.alloc())?;
     tell_written(rt, file.as_slice())?;
-    tell_shuffled(rt, file.as_slice())
+    tell_shuffled(rt, file.as_slice())?;
+    tell_45(rt, file.as_slice())?;
+    tell_damaged(rt, file.as_slice())
 }
 
 fn main(rt: LibcRuntime) -> Result<(), AnyError> {

@@ -1,6 +1,6 @@
 // Files damaged at a record, the refusal that is due to each, and its place. Nothing here is asked of the library.
-use booklayout::Parts;
-use booklayout::cut;
+use super::layout::Parts;
+use super::layout::cut;
 use std::alloc::Global;
 use std::error::AnyError;
 
