@@ -1,4 +1,7 @@
 // The sheet Alfa, which was worked out by hand, and a table of what the rules say of it.
+
+#![tactic(auto)]
+
 mod sheets;
 mod table;
 

@@ -1,4 +1,7 @@
 // Tests of working out and examining rows: a sheet that was worked out by hand.
+
+#![tactic(auto)]
+
 mod alfa;
 mod sheets;
 mod telling;

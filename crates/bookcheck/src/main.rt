@@ -1,4 +1,7 @@
 // Checks a book file: reads it on standard input, and tells whether it is accepted or by which refusal and where it is refused.
+
+#![tactic(auto)]
+
 ghost use Rattle.std.specs.Prelude.{◌≡◌, IfOk, string_bytes};
 ghost use Rattle.bookcheck.specs.Lines.{line_of, Tells};
 

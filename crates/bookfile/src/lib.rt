@@ -1,4 +1,7 @@
 // Book files: read into a table of figures, and written of any book.
+
+#![tactic(auto)]
+
 mod faults;
 mod filling;
 mod reading;

@@ -1,4 +1,7 @@
 // The records of a book file, and a reader that hands them out one by one.
+
+#![tactic(auto)]
+
 mod reading;
 mod records;
 

@@ -1,4 +1,7 @@
 // Braking books: emergency and service distances by gradient class, as published or from a file.
+
+#![tactic(auto)]
+
 mod braking;
 mod file_book;
 mod published;

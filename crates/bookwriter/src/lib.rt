@@ -1,4 +1,7 @@
 // Writing a braking book into a buffer as the bytes of a book file.
+
+#![tactic(auto)]
+
 mod records;
 mod writing;
 

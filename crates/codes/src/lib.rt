@@ -1,4 +1,7 @@
 // Speed codes, gradient classes and refusals: the words that every layer shares.
+
+#![tactic(auto)]
+
 mod gradients;
 mod refusals;
 mod speeds;

@@ -1,4 +1,7 @@
 // A drive over a sheet by its typed calls, as the program of a host makes them: enter, strike, close, work out, submit, set off, step, leave.
+
+#![tactic(auto)]
+
 mod drawing;
 mod driving;
 

@@ -1,4 +1,7 @@
 // Driving a train over a row of codes, metre by metre.
+
+#![tactic(auto)]
+
 ghost use Rattle.driving.specs.Safety.{RunsAreSafe};
 
 mod heads;

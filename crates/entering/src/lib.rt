@@ -1,4 +1,7 @@
 // Entering records into the tables of a line: intervals, gradients, restrictions and stop marks.
+
+#![tactic(auto)]
+
 mod checks;
 mod gradients;
 mod intervals;

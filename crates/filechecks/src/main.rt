@@ -1,5 +1,8 @@
 // Tests of book files: a written book against the example file and the way back, and files damaged here, each held to the refusal
 // and the place that are due.
+
+#![tactic(auto)]
+
 mod damage;
 mod layout;
 mod refusing;

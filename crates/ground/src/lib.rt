@@ -1,4 +1,7 @@
 // Ground: entries that give stretches of a line a value, the worst value over a metre or a stretch, and tables with a count.
+
+#![tactic(auto)]
+
 mod entries;
 mod graded;
 mod stretches;

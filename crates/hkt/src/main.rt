@@ -1,4 +1,7 @@
 // Answers a script: reads it on standard input, and writes a line for each of its lines that has words.
+
+#![tactic(auto)]
+
 mod answering;
 mod entering;
 mod sheets;

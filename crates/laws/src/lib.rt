@@ -1,4 +1,7 @@
 // What braking distances obey: the range of a figure, the four laws, and the test of them over any figures.
+
+#![tactic(auto)]
+
 mod figures;
 mod order;
 mod tables;

@@ -1,4 +1,7 @@
 // Tests of the published book against the print, and of the classes of faldtal.
+
+#![tactic(auto)]
+
 mod classes;
 mod printed;
 

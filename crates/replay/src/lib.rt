@@ -1,4 +1,7 @@
 // Replaying a list of calls over one sheet, whatever its state: every call is answered, and the law over runs holds.
+
+#![tactic(auto)]
+
 mod answering;
 mod answers;
 mod any_sheet;

@@ -1,5 +1,8 @@
 // How many rows are worked out in a second. `./run rowbench N` works out N rows of the fullest sheet and N of a usual one, and tells
 // how long that took; without a number each row is worked out once, and no time is told.
+
+#![tactic(auto)]
+
 mod sheets;
 
 use anyhow::anyhow;

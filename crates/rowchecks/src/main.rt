@@ -1,5 +1,8 @@
 // Holds the library's rows against a second implementation of the five rules, over many small sheets drawn at random and several
 // braking books: the verdict on every row, and the highest row.
+
+#![tactic(auto)]
+
 mod comparing;
 mod figures;
 mod listed;

@@ -1,4 +1,7 @@
 // The examiner's verdict on a row of codes, and the highest row that a line allows before a stop mark.
+
+#![tactic(auto)]
+
 mod breaks;
 mod examining;
 mod failures;

@@ -1,4 +1,7 @@
 // The five rules for the speed codes of a line, the examiner's verdict on a row, and the highest row.
+
+#![tactic(auto)]
+
 mod braked;
 mod limiting;
 mod lines;

@@ -1,4 +1,7 @@
 // Runs of the nine calls over a sheet, and the law over every run: theorems for the layers above.
+
+#![tactic(auto)]
+
 ghost use Rattle.runs.specs.Runs.{Determined};
 ghost use Rattle.runs.specs.Law.{LawOverRuns};
 

@@ -1,4 +1,7 @@
 // The orders of a script: which order the words of a line give.
+
+#![tactic(auto)]
+
 mod kinds;
 mod orders;
 mod reading;

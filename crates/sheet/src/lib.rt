@@ -1,4 +1,7 @@
 // A sheet in its four states, as types, and the nine calls that they take.
+
+#![tactic(auto)]
+
 mod base;
 mod closed;
 mod closing;

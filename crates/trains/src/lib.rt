@@ -1,4 +1,7 @@
 // Trains by what they promise of their braking: the trait, and the trains that come with the library.
+
+#![tactic(auto)]
+
 mod either;
 mod late;
 mod lowest;

@@ -1,4 +1,7 @@
 // Small sheets drawn at random, for tests that hold two implementations of the rules against each other.
+
+#![tactic(auto)]
+
 mod drawing;
 mod draws;
 mod sheets;

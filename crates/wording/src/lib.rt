@@ -1,4 +1,7 @@
 // How the answers to a script are worded.
+
+#![tactic(auto)]
+
 mod answers;
 mod refused;
 mod row_texts;

@@ -4,4 +4,4 @@ use Rattle.bookcheck.specs.Lines.{line_of}
 use Rattle.bookcheck.proofs.line.Goals as goal
 
 pub returns-in-Ok : goal.returns-in-Ok
-returns-in-Ok c = subst (λ o. IfOk c.from-str.result (λ text. string_bytes text ≡ line_of o)) (sym c.in-Ok.is) c.from-str.ensures.ok
+returns-in-Ok c = subst (λ o. IfOk c.from_str.result (λ text. string_bytes text ≡ line_of o)) (sym c.in-Ok.is) c.from_str.ensures.ok

@@ -35,14 +35,14 @@ returns-in-None c =
     let hands = of-file c.records.reader.file.now c.args.file.now inv.0 place c.next.new.self.place c.in-Ok.read None c.in-None.is c.in-Ok.ensures.hands in
     sofar_all c.args.file.now place c.records.table inv.1 hands.0
 
-pub returns-in-Err-enter-record : goal.returns-in-Err-enter-record
-returns-in-Err-enter-record c =
+pub returns-in-Err-enter_record : goal.returns-in-Err-enter_record
+returns-in-Err-enter_record c =
     let inv = c.records.invariant in
     let place = c.records.reader.place in
     let item = c.in-Some.item in
     let hands = of-file c.records.reader.file.now c.args.file.now inv.0 place c.next.new.self.place c.in-Ok.read (Some item) c.in-Some.is c.in-Ok.ensures.hands in
-    subst (Faulty c.args.file.now (notice c.in-Err-enter-record.refusal).0) (sym c.place-place.ensures)
-    (sofar_twice c.args.file.now place c.records.table inv.1 (said item) hands.front.begins c.in-Err-enter-record.refusal c.enter-record.new.table c.in-Err-enter-record.ensures)
+    subst (Faulty c.args.file.now (notice c.in-Err-enter_record.refusal).0) (sym c.place-place.ensures)
+    (sofar_twice c.args.file.now place c.records.table inv.1 (said item) hands.front.begins c.in-Err-enter_record.refusal c.enter_record.new.table c.in-Err-enter_record.ensures)
 
 pub records-preserved : goal.records-preserved
 records-preserved c =
@@ -51,5 +51,5 @@ records-preserved c =
     let item = c.in-Some.item in
     let hands = of-file c.records.reader.file.now c.args.file.now inv.0 place c.next.new.self.place c.in-Ok.read (Some item) c.in-Some.is c.in-Ok.ensures.hands in (
       c.in-Ok.ensures.same ∙ inv.0,
-      sofar_more c.args.file.now place c.records.table inv.1 (said item) hands.front.begins c.next.new.self.place hands.moved c.enter-record.new.table c.in-default.ensures,
+      sofar_more c.args.file.now place c.records.table inv.1 (said item) hands.front.begins c.next.new.self.place hands.moved c.enter_record.new.table c.in-default.ensures,
     )

@@ -10,9 +10,9 @@ returns g c =
     let D = g.B.BrakingBook.services c.args.book.now in
     let distances = g.B.BrakingBook.distances c.args.book.now in
     let laws = g.B.BrakingBook.laws c.args.book.now in
-    let file = c.write-classes.ensures in
+    let file = c.write_classes.ensures in
     record {
-      written = (sym c.write-classes.auto.buffer ∙ ap length file ∙ file_size E D, file);
+      written = (sym c.write_classes.auto.buffer ∙ ap length file ∙ file_size E D, file);
       means = subst (λ bytes. Means bytes E D) (sym file) (file_means E D distances laws);
       back = subst (λ bytes. Alone bytes E D) (sym file) (file_alone E D distances laws);
     }

@@ -10,15 +10,15 @@ use Rattle.bookwriter.proofs.writing.write_classes.Goals as goal
 pub loop-class-init : goal.loop-class-init
 loop-class-init g c = sofar_none (classes_room (g.B.BrakingBook.emergencies c.args.book.now) (g.B.BrakingBook.services c.args.book.now) c.args.buffer.now c.requires)
 
-pub write-class-next-requires : goal.write-class-next-requires
-write-class-next-requires g c =
+pub write_class-next-requires : goal.write_class-next-requires
+write_class-next-requires g c =
     class_room (g.B.BrakingBook.emergencies c.args.book.now) (g.B.BrakingBook.services c.args.book.now) (get_or classes c.loop-class.class-index C1)
     c.loop-class.next (length c.loop-class.buffer) (sofar_room c.loop-class.invariant C1 c.loop-class-test.true c.loop-class.auto.buffer)
 
 pub loop-class-preserved : goal.loop-class-preserved
 loop-class-preserved g c =
     let room = sofar_room c.loop-class.invariant C1 c.loop-class-test.true c.loop-class.auto.buffer in
-    sofar_more c.loop-class.invariant C1 c.loop-class-test.true (class_wrote (omega arith) c.write-class-next.ensures)
+    sofar_more c.loop-class.invariant C1 c.loop-class-test.true (class_wrote (omega arith) c.write_class-next.ensures)
 
 pub returns : goal.returns
 returns g c =

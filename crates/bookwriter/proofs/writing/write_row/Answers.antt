@@ -7,11 +7,11 @@ pub loop-to-init : goal.loop-to-init
 unfolding row
 loop-to-init g c = sofar_none c.requires
 
-pub write-emergency-next-requires : goal.write-emergency-next-requires
-write-emergency-next-requires g c = sofar_room c.loop-to.invariant Stop c.loop-to-test.true c.loop-to.auto.buffer
+pub write_emergency-next-requires : goal.write_emergency-next-requires
+write_emergency-next-requires g c = sofar_room c.loop-to.invariant Stop c.loop-to-test.true c.loop-to.auto.buffer
 
 pub loop-to-preserved : goal.loop-to-preserved
-loop-to-preserved g c = sofar_more c.loop-to.invariant Stop c.loop-to-test.true c.write-emergency-next.ensures
+loop-to-preserved g c = sofar_more c.loop-to.invariant Stop c.loop-to-test.true c.write_emergency-next.ensures
 
 pub returns : goal.returns
 unfolding row

@@ -12,7 +12,7 @@ loop-from-init g c = sofar_none c.requires
 pub put-next-requires : goal.put-next-requires
 put-next-requires g c =
     let bytes = service_given (g.B.BrakingBook.emergencies c.args.book.now) (g.B.BrakingBook.services c.args.book.now) c.args.class (get_or speeds c.loop-from.from-index V30)
-    c.service-record.ensures c.service-metres.ensures in
+    c.service_record.ensures c.service-metres.ensures in
     let size = ap length bytes in
     let room = sofar_room c.loop-from.invariant V30 c.loop-from-test.true c.loop-from.auto.buffer in
     omega arith
@@ -20,7 +20,7 @@ put-next-requires g c =
 pub loop-from-preserved : goal.loop-from-preserved
 loop-from-preserved g c =
     let bytes = service_given (g.B.BrakingBook.emergencies c.args.book.now) (g.B.BrakingBook.services c.args.book.now) c.args.class (get_or speeds c.loop-from.from-index V30)
-    c.service-record.ensures c.service-metres.ensures in
+    c.service_record.ensures c.service-metres.ensures in
     sofar_more c.loop-from.invariant V30 c.loop-from-test.true
     (subst (λ bs. Wrote c.loop-from.buffer c.loop-from.next bs c.put-next.new.buffer c.put-next.result) bytes c.put-next.ensures)
 

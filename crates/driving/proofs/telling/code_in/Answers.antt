@@ -10,4 +10,4 @@ returns-then-place-row c =
     sym (get_or_past (codes_of c.args.row.now) c.args.place Stop (omega arith))
 
 pub returns : goal.returns
-returns c = c.code-of.ensures ∙ sym (get_or-map read_code c.args.row.now c.args.place 0 Stop c.if-place-row.false)
+returns c = c.code_of.ensures ∙ sym (get_or-map read_code c.args.row.now c.args.place 0 Stop c.if-place-row.false)

@@ -14,5 +14,5 @@ returns-then-sought-begin c gradients restrictions mark reaches =
 pub loop-place-preserved : goal.loop-place-preserved
 loop-place-preserved c =
     passed_more c.args.start c.args.intervals.now c.args.row.now c.args.position c.args.told
-    c.loop-place.place c.loop-place.begin c.length-at.result c.loop-place.invariant c.length-at.ensures
-    (subst (λ x. is_told c.loop-place.begin c.args.position x c.args.told ≡ false) c.code-in-code.ensures (sym c.if-is-told.ensures))
+    c.loop-place.place c.loop-place.begin c.length_at.result c.loop-place.invariant c.length_at.ensures
+    (subst (λ x. is_told c.loop-place.begin c.args.position x c.args.told ≡ false) c.code_in-code.ensures (sym c.if-is_told.ensures))

@@ -8,10 +8,10 @@ use Rattle.entering.proofs.Fit.{gradient_fit}
 use Rattle.entering.proofs.Values.{class_of_faldtal_is}
 use Rattle.entering.proofs.gradients.enter_gradient.Goals as goal
 
-pub returns-in-err-check-room : goal.returns-in-err-check-room
-returns-in-err-check-room c =
+pub returns-in-err-check_room : goal.returns-in-err-check_room
+returns-in-err-check_room c =
     let broke = err_from_is_err_and c.from-residual.result c.from-residual.ensures.1 in
-    rw (broke.1, broke.2) (record { answer = refused_from_room c.args.table.now c.args.count _ _ _ _ c.in-err-check-room.ensures; after = refl; fit = tt })
+    rw (broke.1, broke.2) (record { answer = refused_from_room c.args.table.now c.args.count _ _ _ _ c.in-err-check_room.ensures; after = refl; fit = tt })
 
 pub returns : goal.returns
 returns c =

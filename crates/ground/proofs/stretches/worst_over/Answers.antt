@@ -6,9 +6,9 @@ pub returns-then-to-from : goal.returns-then-to-from
 returns-then-to-from g c =
     let laws = stretches g.met.V.Graded.lawful in
     record {
-      value = c.undrawn-value.ensures ∙ sym ((laws c.args.entries.now).none c.args.from c.args.to (omega arith));
+      value = c.undrawn_value.ensures ∙ sym ((laws c.args.entries.now).none c.args.from c.args.to (omega arith));
       laws = laws;
     }
 
 pub returns : goal.returns
-returns g c = record { value = c.worst-of-metres.ensures; laws = stretches g.met.V.Graded.lawful }
+returns g c = record { value = c.worst_of_metres.ensures; laws = stretches g.met.V.Graded.lawful }

@@ -7,7 +7,7 @@ loop-gap-init g c = down_none c.args.table.now c.args.place
 
 pub loop-gap-preserved : goal.loop-gap-preserved
 loop-gap-preserved g c =
-    down_more c.args.table.now c.loop-gap.table c.copy-down.new.table c.args.place c.loop-gap.gap c.copy-down.ensures c.loop-gap.invariant (omega arith) (omega arith)
+    down_more c.args.table.now c.loop-gap.table c.copy_down.new.table c.args.place c.loop-gap.gap c.copy_down.ensures c.loop-gap.invariant (omega arith) (omega arith)
 
 pub returns : goal.returns
 returns g c =

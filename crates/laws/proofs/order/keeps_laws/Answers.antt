@@ -10,7 +10,7 @@ use Rattle.laws.proofs.order.keeps_laws.Goals as goal
 pub loop-class-preserved : goal.loop-class-preserved
 loop-class-preserved g c =
     each_more classes (class_in_order (g.F.Figures.emergencies c.args.figures.now) (g.F.Figures.services c.args.figures.now)) c.loop-class.class-index C1
-    c.loop-class-test.true (sym c.if-not-class-in-order.ensures) ∙ c.loop-class.invariant
+    c.loop-class-test.true (sym c.if-not-class_in_order.ensures) ∙ c.loop-class.invariant
 
 pub returns : goal.returns
 returns g c =
@@ -19,9 +19,9 @@ returns g c =
     let passed = sym (each_all classes (class_in_order E D) c.loop-class.class-index c.loop-class-test.false) ∙ c.loop-class.invariant in
     record { test = passed; laws = Decides-at true (in_order E D) passed (order_decides E D) }
 
-pub returns-then-not-class-in-order : goal.returns-then-not-class-in-order
-returns-then-not-class-in-order g c =
+pub returns-then-not-class_in_order : goal.returns-then-not-class_in_order
+returns-then-not-class_in_order g c =
     let E = g.F.Figures.emergencies c.args.figures.now in
     let D = g.F.Figures.services c.args.figures.now in
-    let failed = sym (each_fails classes (class_in_order E D) c.loop-class.class-index C1 c.loop-class-test.true (sym c.if-not-class-in-order.ensures)) ∙ c.loop-class.invariant in
+    let failed = sym (each_fails classes (class_in_order E D) c.loop-class.class-index C1 c.loop-class-test.true (sym c.if-not-class_in_order.ensures)) ∙ c.loop-class.invariant in
     record { test = failed; laws = Decides-at false (in_order E D) failed (order_decides E D) }

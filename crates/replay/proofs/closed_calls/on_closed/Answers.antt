@@ -13,40 +13,40 @@ use Rattle.replay.proofs.closed_calls.on_closed.Goals as goal
 pub returns-in-Ok : goal.returns-in-Ok
 returns-in-Ok g c =
     let book = c.args.book.now in
-    let tables = five_tables c.args.intervals.now c.args.gradients.now c.args.restrictions.now c.args.marks.now c.args.row-table.now in
+    let tables = five_tables c.args.intervals.now c.args.gradients.now c.args.restrictions.now c.args.marks.now c.args.row_table.now in
     let row = c.work_out.new.row in
     let long : length row ≡ vec_len c.in-WorkOut.bytes = omega arith in
     record {
       made = acted g.T.Train.numbers c.args.call (WorkOut c.in-WorkOut.mark c.in-WorkOut.approach c.in-WorkOut.bytes) c.in-WorkOut.is
           (ap (λ xs. worked xs c.in-Ok.letter c.in-Ok.place) (take_at row (drop (length row) (vec_items c.in-WorkOut.bytes)) (vec_len c.in-WorkOut.bytes) long))
           (works_out (g.B.BrakingBook.emergencies book) (g.B.BrakingBook.services book) (lent_of c.args.call.lent) tables c.args.sheet
-          c.in-WorkOut.mark c.in-WorkOut.approach (vec_items c.in-WorkOut.bytes) (tables_of c.lent-parts-lent.result []) c.as-mut-slice.result.now
-          (c.lent-parts-lent.ensures c.args.row-table.now) c.as-mut-slice.ensures.value (c.in-Ok.letter, c.in-Ok.place) row (let same = ap length c.as-mut-slice.ensures.value in omega arith) c.in-Ok.ensures);
+          c.in-WorkOut.mark c.in-WorkOut.approach (vec_items c.in-WorkOut.bytes) (tables_of c.lent_parts-lent.result []) c.as_mut_slice.result.now
+          (c.lent_parts-lent.ensures c.args.row_table.now) c.as_mut_slice.ensures.value (c.in-Ok.letter, c.in-Ok.place) row (let same = ap length c.as_mut_slice.ensures.value in omega arith) c.in-Ok.ensures);
       by = tt;
     }
 
 pub returns-in-Err : goal.returns-in-Err
 returns-in-Err g c =
     let book = c.args.book.now in
-    let tables = five_tables c.args.intervals.now c.args.gradients.now c.args.restrictions.now c.args.marks.now c.args.row-table.now in
+    let tables = five_tables c.args.intervals.now c.args.gradients.now c.args.restrictions.now c.args.marks.now c.args.row_table.now in
     let row = c.work_out.new.row in
     let long : length row ≡ vec_len c.in-WorkOut.bytes = omega arith in
     record {
       made = acted g.T.Train.numbers c.args.call (WorkOut c.in-WorkOut.mark c.in-WorkOut.approach c.in-WorkOut.bytes) c.in-WorkOut.is
           (ap (λ xs. unworked xs (notice c.in-Err.why)) (take_at row (drop (length row) (vec_items c.in-WorkOut.bytes)) (vec_len c.in-WorkOut.bytes) long))
           (works_out_not (g.B.BrakingBook.emergencies book) (g.B.BrakingBook.services book) (lent_of c.args.call.lent) tables c.args.sheet
-          c.in-WorkOut.mark c.in-WorkOut.approach (vec_items c.in-WorkOut.bytes) (tables_of c.lent-parts-lent.result []) c.as-mut-slice.result.now
-          (c.lent-parts-lent.ensures c.args.row-table.now) c.as-mut-slice.ensures.value c.in-Err.why row c.in-Err.ensures);
+          c.in-WorkOut.mark c.in-WorkOut.approach (vec_items c.in-WorkOut.bytes) (tables_of c.lent_parts-lent.result []) c.as_mut_slice.result.now
+          (c.lent_parts-lent.ensures c.args.row_table.now) c.as_mut_slice.ensures.value c.in-Err.why row c.in-Err.ensures);
       by = tt;
     }
 
 pub returns-in-Ok-submit : goal.returns-in-Ok-submit
 returns-in-Ok-submit g c =
     let book = c.args.book.now in
-    let tables = five_tables c.args.intervals.now c.args.gradients.now c.args.restrictions.now c.args.marks.now c.args.row-table.now in
+    let tables = five_tables c.args.intervals.now c.args.gradients.now c.args.restrictions.now c.args.marks.now c.args.row_table.now in
     let done = submits book (g.B.BrakingBook.emergencies book) (g.B.BrakingBook.services book) (lent_of c.args.call.lent) tables c.args.sheet
-    c.in-Submit.mark c.in-Submit.approach (vec_items c.in-Submit.row) (tables_of c.lent-parts-lent.result []) c.as-slice.result.now (c.min-room.result - 0)
-    (c.lent-parts-lent.ensures c.args.row-table.now) c.as-slice.ensures.value (omega arith) c.in-Ok-submit.passed c.submit.new.row-table c.in-Ok-submit.ensures in
+    c.in-Submit.mark c.in-Submit.approach (vec_items c.in-Submit.row) (tables_of c.lent_parts-lent.result []) c.as_slice.result.now (c.min-room.result - 0)
+    (c.lent_parts-lent.ensures c.args.row_table.now) c.as_slice.ensures.value (omega arith) c.in-Ok-submit.passed c.submit.new.row_table c.in-Ok-submit.ensures in
     record {
       made = acted g.T.Train.numbers c.args.call (Submit c.in-Submit.mark c.in-Submit.approach c.in-Submit.row) c.in-Submit.is refl done.0;
       by = done.1;
@@ -55,11 +55,11 @@ returns-in-Ok-submit g c =
 pub returns-in-Err-submit : goal.returns-in-Err-submit
 returns-in-Err-submit g c =
     let book = c.args.book.now in
-    let tables = five_tables c.args.intervals.now c.args.gradients.now c.args.restrictions.now c.args.marks.now c.args.row-table.now in
+    let tables = five_tables c.args.intervals.now c.args.gradients.now c.args.restrictions.now c.args.marks.now c.args.row_table.now in
     record {
       made = acted g.T.Train.numbers c.args.call (Submit c.in-Submit.mark c.in-Submit.approach c.in-Submit.row) c.in-Submit.is refl
           (submits_not book (g.B.BrakingBook.emergencies book) (g.B.BrakingBook.services book) (lent_of c.args.call.lent) tables c.args.sheet
-          c.in-Submit.mark c.in-Submit.approach (vec_items c.in-Submit.row) (tables_of c.lent-parts-lent.result []) c.as-slice.result.now (c.min-room.result - 0)
-          (c.lent-parts-lent.ensures c.args.row-table.now) c.as-slice.ensures.value (omega arith) c.in-Err-submit.refused c.submit.new.row-table c.in-Err-submit.ensures);
+          c.in-Submit.mark c.in-Submit.approach (vec_items c.in-Submit.row) (tables_of c.lent_parts-lent.result []) c.as_slice.result.now (c.min-room.result - 0)
+          (c.lent_parts-lent.ensures c.args.row_table.now) c.as_slice.ensures.value (omega arith) c.in-Err-submit.refused c.submit.new.row_table c.in-Err-submit.ensures);
       by = tt;
     }

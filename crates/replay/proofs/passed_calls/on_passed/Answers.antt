@@ -13,7 +13,7 @@ returns-in-Ok g c =
     let lent = lent_of c.args.call.lent in
     record {
       made = λ D intervals restrictions marks.
-          let tables = five_tables intervals c.args.gradients.now restrictions marks c.args.row-table.now in
+          let tables = five_tables intervals c.args.gradients.now restrictions marks c.args.row_table.now in
           acted numbers c.args.call (SetOff c.in-SetOff.train) c.in-SetOff.is (ap outcome_at c.report-report.ensures)
           (sets_off E D numbers lent tables c.args.sheet c.in-SetOff.train c.in-Ok.running
           (by_parts E D numbers lent tables c.args.sheet c.in-SetOff.train (Ok c.in-Ok.running) c.part.ensures c.part-in-SetOff.ensures c.in-Ok.ensures));
@@ -27,7 +27,7 @@ returns-in-Err g c =
     let lent = lent_of c.args.call.lent in
     record {
       made = λ D intervals restrictions marks.
-          let tables = five_tables intervals c.args.gradients.now restrictions marks c.args.row-table.now in
+          let tables = five_tables intervals c.args.gradients.now restrictions marks c.args.row_table.now in
           acted numbers c.args.call (SetOff c.in-SetOff.train) c.in-SetOff.is refl
           (sets_off_not E D numbers lent tables c.args.sheet c.in-SetOff.train c.in-Err.refused
           (by_parts E D numbers lent tables c.args.sheet c.in-SetOff.train (Err c.in-Err.refused) c.part.ensures c.part-in-SetOff.ensures c.in-Err.ensures));

@@ -17,7 +17,7 @@ returns-in-default g c =
 
 pub loop-call-init : goal.loop-call-init
 loop-call-init g c =
-    let made = c.in-Ok-with-capacity.ensures.made in
+    let made = c.in-Ok-with_capacity.ensures.made in
     let all = ap length c.into-iter-call-iterator.ensures.into-iter-gives.0 in
     (tt, tt, refl, omega arith, tt, rw made.0 sofar_none)
 
@@ -26,19 +26,19 @@ loop-call-preserved g c =
     let inv = c.loop-call.invariant in
     let one = c.in-Some.ensures.steps.0 in
     let fewer = ap length one in
-    let pushed = c.push-reserved.ensures.len in
-    let room = c.push-reserved.ensures.capacity in (
+    let pushed = c.push_reserved.ensures.len in
+    let room = c.push_reserved.ensures.capacity in (
       tt,
       tt,
       append_assoc c.loop-call.yielded _ _ ∙ ap (λ xs. c.loop-call.yielded ++ xs) (sym one) ∙ inv.2,
       omega arith,
       c.perform-made.ensures.by,
-      sofar_more c.loop-call.yielded (vec_items c.loop-call.answers) (vec_items c.push-reserved.new.self) c.in-Some.call c.perform-made.result.answer
-          inv.5 c.perform-made.ensures.made c.push-reserved.ensures.items,
+      sofar_more c.loop-call.yielded (vec_items c.loop-call.answers) (vec_items c.push_reserved.new.self) c.in-Some.call c.perform-made.result.answer
+          inv.5 c.perform-made.ensures.made c.push_reserved.ensures.items,
     )
 
-pub push-reserved-requires : goal.push-reserved-requires
-push-reserved-requires g c =
+pub push_reserved-requires : goal.push_reserved-requires
+push_reserved-requires g c =
     let inv = c.loop-call.invariant in
     let fewer = ap length c.in-Some.ensures.steps.0 in
     omega arith
@@ -51,8 +51,8 @@ returns g c =
     let none = sym c.in-None.ensures.steps.0 ∙ c.loop-call.call-iterator.rest.ok.0 in
     record {
       replays = replayed (g.B.BrakingBook.emergencies book) (g.B.BrakingBook.services book) (g.B.BrakingBook.distances book) (g.B.BrakingBook.laws book) g.T.Train.numbers c.args.start
-          (five_tables c.args.intervals.now c.args.gradients.now c.args.restrictions.now c.args.marks.now c.args.row-table.now)
-          (five_tables c.loop-call.intervals c.loop-call.gradients c.loop-call.restrictions c.loop-call.marks c.loop-call.row-table)
+          (five_tables c.args.intervals.now c.args.gradients.now c.args.restrictions.now c.args.marks.now c.args.row_table.now)
+          (five_tables c.loop-call.intervals c.loop-call.gradients c.loop-call.restrictions c.loop-call.marks c.loop-call.row_table)
           c.in-Ok.sheet (vec_items c.args.calls) c.loop-call.yielded (into_iter_items c.loop-call.call-iterator) (record { answers = c.loop-call.answers; sheet = c.loop-call.sheet })
           blank.0 blank.1 (inv.2 ∙ c.into-iter-call-iterator.ensures.into-iter-gives.0) (sym none) inv.5;
       determined = determined (g.B.BrakingBook.emergencies book) (g.B.BrakingBook.services book);

@@ -12,6 +12,6 @@ invariant-loop-call g l =
     (vec_len l.answers + length (into_iter_items l.call-iterator) ≤ vec_capacity l.answers) ×
     By l.book l.sheet ×
     Sofar (g.B.BrakingBook.emergencies l.book) (g.B.BrakingBook.services l.book) g.T.Train.numbers
-    (sheet_of g.T.Train.numbers l.initial.sheet (five_tables l.initial.intervals l.initial.gradients l.initial.restrictions l.initial.marks l.initial.row-table))
+    (sheet_of g.T.Train.numbers l.initial.sheet (five_tables l.initial.intervals l.initial.gradients l.initial.restrictions l.initial.marks l.initial.row_table))
     l.yielded (vec_items l.answers)
-    (sheet_of g.T.Train.numbers l.sheet (five_tables l.intervals l.gradients l.restrictions l.marks l.row-table))
+    (sheet_of g.T.Train.numbers l.sheet (five_tables l.intervals l.gradients l.restrictions l.marks l.row_table))

@@ -17,7 +17,7 @@ returns-in-Ok g c =
     let numbers = g.T.Train.numbers in
     let lent = lent_of c.args.call.lent in
     let stepped = λ (D : Services) (restrictions : List (Entry Speed)) (marks : List StopMark).
-    (let tables = five_tables c.args.intervals.now c.args.gradients.now restrictions marks c.args.row-table.now in
+    (let tables = five_tables c.args.intervals.now c.args.gradients.now restrictions marks c.args.row_table.now in
     steps E D numbers lent tables c.args.sheet c.step.new.self c.in-Ok.report
     (stepped_by_parts E D numbers lent tables c.args.sheet (Ok c.in-Ok.report) c.step.new.self c.part-line.ensures c.part-ground.ensures c.part-row.ensures c.in-Ok.ensures)) in
     record {
@@ -32,7 +32,7 @@ returns-in-Err g c =
     let numbers = g.T.Train.numbers in
     let lent = lent_of c.args.call.lent in
     let stepped = λ (D : Services) (restrictions : List (Entry Speed)) (marks : List StopMark).
-    (let tables = five_tables c.args.intervals.now c.args.gradients.now restrictions marks c.args.row-table.now in
+    (let tables = five_tables c.args.intervals.now c.args.gradients.now restrictions marks c.args.row_table.now in
     steps_not E D numbers lent tables c.args.sheet c.step.new.self c.in-Err.why
     (stepped_by_parts E D numbers lent tables c.args.sheet (Err c.in-Err.why) c.step.new.self c.part-line.ensures c.part-ground.ensures c.part-row.ensures c.in-Err.ensures)) in
     record {

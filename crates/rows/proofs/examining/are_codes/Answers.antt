@@ -4,18 +4,18 @@ use Rattle.codes.specs.Speeds.{byte}
 use Rattle.rows.proofs.Bytes.{code_found, code_missing}
 use Rattle.rows.proofs.examining.are_codes.Goals as goal
 
-pub returns-then-is-none : goal.returns-then-is-none
-returns-then-is-none c = (
+pub returns-then-is_none : goal.returns-then-is_none
+returns-then-is_none c = (
   λ e. absurd (let z : ◌≡◌ {A = ℕ} 0 1 = cc in omega arith),
   λ spells.
       let there = spells c.loop-byte.byte-index (omega arith) c.loop-byte-test.true in
-      absurd (code_missing (get_or c.args.row.now c.loop-byte.byte-index 0) c.from-byte.result c.from-byte.ensures c.if-is-none.ensures there.0 there.1),
+      absurd (code_missing (get_or c.args.row.now c.loop-byte.byte-index 0) c.from_byte.result c.from_byte.ensures c.if-is_none.ensures there.0 there.1),
 )
 
 pub loop-byte-preserved : goal.loop-byte-preserved
 loop-byte-preserved c =
     below_more (λ k. (x : Code) × (get_or c.args.row.now k 0 ≡ byte x)) c.loop-byte.byte-index c.loop-byte.invariant
-    (code_found (get_or c.args.row.now c.loop-byte.byte-index 0) c.from-byte.result c.from-byte.ensures c.if-is-none.ensures)
+    (code_found (get_or c.args.row.now c.loop-byte.byte-index 0) c.from_byte.result c.from_byte.ensures c.if-is_none.ensures)
 
 pub returns : goal.returns
 returns c = (λ e k low high. c.loop-byte.invariant k (let done = c.loop-byte-test.false in omega arith), λ spells. refl)

@@ -25,8 +25,8 @@ loop-i-init g c =
       start.1.1 ∙ sym (get_or_past (codes_of row) (length row) Stop (let count = length-map row read_code in omega arith)),
     )
 
-pub begin-of-begin-requires : goal.begin-of-begin-requires
-begin-of-begin-requires g c =
+pub begin_of-begin-requires : goal.begin_of-begin-requires
+begin_of-begin-requires g c =
     let line = c.args.line.now in
     let inv = c.loop-i.invariant in
     let here : c.loop-i.i - 1 + 1 ≡ c.loop-i.i = let some = c.loop-i-test.true in omega arith in
@@ -50,16 +50,16 @@ loop-i-preserved g c =
     let back : n + 1 - 1 ≡ n = omega arith in
     let within = inv.0.within in
     let inside : n < length row = let size = c.requires.size in omega arith in
-    let code : c.code-of-code.result ≡ get_or (codes_of row) n Stop = c.code-of-code.ensures ∙ sym (get_or-map read_code row n 0 Stop inside) in
+    let code : c.code_of-code.result ≡ get_or (codes_of row) n Stop = c.code_of-code.ensures ∙ sym (get_or-map read_code row n 0 Stop inside) in
     let next : c.loop-i.pass.next ≡ get_or (codes_of row) (suc n) Stop = inv.2 ∙ ap (λ i. get_or (codes_of row) i Stop) here in
-    let five : Five (track_of line) (mark_of target) E D (suc n) (get_or (codes_of row) (suc n) Stop) c.caps-at-caps.result =
-    subst (λ w. Five (track_of line) (mark_of target) E D (suc n) w c.caps-at-caps.result) next
-    (subst (λ i. Five (track_of line) (mark_of target) E D i c.loop-i.pass.next c.caps-at-caps.result) plus c.caps-at-caps.ensures) in
-    let looked : Looked c.caps-at-caps.result (code_at c.args.approach (codes_of row) (suc n)) (suc n) c.loop-i.found c.looked-at-found.result =
-    subst (λ x. Looked c.caps-at-caps.result x (suc n) c.loop-i.found c.looked-at-found.result) code
-    (subst (λ i. Looked c.caps-at-caps.result c.code-of-code.result i c.loop-i.found c.looked-at-found.result) plus c.looked-at-found.ensures) in (
+    let five : Five (track_of line) (mark_of target) E D (suc n) (get_or (codes_of row) (suc n) Stop) c.caps_at-caps.result =
+    subst (λ w. Five (track_of line) (mark_of target) E D (suc n) w c.caps_at-caps.result) next
+    (subst (λ i. Five (track_of line) (mark_of target) E D i c.loop-i.pass.next c.caps_at-caps.result) plus c.caps_at-caps.ensures) in
+    let looked : Looked c.caps_at-caps.result (code_at c.args.approach (codes_of row) (suc n)) (suc n) c.loop-i.found c.looked_at-found.result =
+    subst (λ x. Looked c.caps_at-caps.result x (suc n) c.loop-i.found c.looked_at-found.result) code
+    (subst (λ i. Looked c.caps_at-caps.result c.code_of-code.result i c.loop-i.found c.looked_at-found.result) plus c.looked_at-found.ensures) in (
       subst (λ i. Stage line target E D i c.further-pass.result) back c.further-pass.ensures.stage,
-      known_more (track_of line) (mark_of target) E D c.args.approach (codes_of row) (suc n) (omega arith) c.caps-at-caps.result five c.loop-i.found c.looked-at-found.result
+      known_more (track_of line) (mark_of target) E D c.args.approach (codes_of row) (suc n) (omega arith) c.caps_at-caps.result five c.loop-i.found c.looked_at-found.result
           (subst (λ i. Known (track_of line) (mark_of target) E D c.args.approach (codes_of row) (suc i) c.loop-i.found) here inv.1) looked,
       c.further-pass.ensures.next ∙ code,
     )
@@ -74,17 +74,17 @@ returns g c =
     let inv = c.loop-i.invariant in
     let end : c.loop-i.i ≡ 0 = let done = c.loop-i-test.false in omega arith in
     let next : c.loop-i.pass.next ≡ get_or (codes_of row) 0 Stop = inv.2 ∙ ap (λ i. get_or (codes_of row) i Stop) end in
-    known_more (track_of line) (mark_of target) E D c.args.approach (codes_of row) 0 (omega arith) c.caps-at-caps-2.result
-    (subst (λ w. Five (track_of line) (mark_of target) E D 0 w c.caps-at-caps-2.result) next c.caps-at-caps-2.ensures) c.loop-i.found c.looked_at.result
+    known_more (track_of line) (mark_of target) E D c.args.approach (codes_of row) 0 (omega arith) c.caps_at-caps-2.result
+    (subst (λ w. Five (track_of line) (mark_of target) E D 0 w c.caps_at-caps-2.result) next c.caps_at-caps-2.ensures) c.loop-i.found c.looked_at.result
     (subst (λ i. Known (track_of line) (mark_of target) E D c.args.approach (codes_of row) (suc i) c.loop-i.found) end inv.1) c.looked_at.ensures
 
-pub caps-at-caps-requires-2 : goal.caps-at-caps-requires-2
-caps-at-caps-requires-2 g c =
+pub caps_at-caps-requires-2 : goal.caps_at-caps-requires-2
+caps_at-caps-requires-2 g c =
     let E = g.B.BrakingBook.emergencies c.args.book.now in
     let D = g.B.BrakingBook.services c.args.book.now in
     let end : c.loop-i.i ≡ 0 = let done = c.loop-i-test.false in omega arith in
     record {
       located = c.requires.located;
       stage = subst (λ i. Stage c.args.line.now c.args.target.now E D i c.loop-i.pass) end c.loop-i.invariant.0;
-      begins = c.begin-of-begin-2.ensures;
+      begins = c.begin_of-begin-2.ensures;
     }

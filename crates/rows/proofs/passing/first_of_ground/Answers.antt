@@ -6,8 +6,8 @@ use Rattle.rows.proofs.passing.first_of_ground.Goals as goal
 pub returns-then-first-j-gt1 : goal.returns-then-first-j-gt1
 returns-then-first-j-gt1 c = kept (λ only e. let more = c.if-first-j-gt1.true in omega arith)
 
-pub returns-then-is-stopped : goal.returns-then-is-stopped
-returns-then-is-stopped c = joined (let below = c.requires in let near = c.if-first-j-gt1.false in omega arith) (c.is-stopped.ensures.0 c.if-is-stopped.true)
+pub returns-then-is_stopped : goal.returns-then-is_stopped
+returns-then-is_stopped c = joined (let below = c.requires in let near = c.if-first-j-gt1.false in omega arith) (c.is_stopped.ensures.0 c.if-is_stopped.true)
 
-pub returns-else-is-stopped : goal.returns-else-is-stopped
-returns-else-is-stopped c = kept (λ only e. not_from_Decides _ c.is-stopped.ensures c.if-is-stopped.false only)
+pub returns-else-is_stopped : goal.returns-else-is_stopped
+returns-else-is_stopped c = kept (λ only e. not_from_Decides _ c.is_stopped.ensures c.if-is_stopped.false only)

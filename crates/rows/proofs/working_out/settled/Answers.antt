@@ -10,16 +10,16 @@ use Rattle.rows.specs.WorkingOut.{Spells}
 use Rattle.rows.proofs.Higher.{approach_allowed, found_highest}
 use Rattle.rows.proofs.working_out.settled.Goals as goal
 
-pub returns-then-not-is-allowed : goal.returns-then-not-is-allowed
-returns-then-not-is-allowed g c =
+pub returns-then-not-is_allowed : goal.returns-then-not-is_allowed
+returns-then-not-is_allowed g c =
     let track = track_of c.args.line.now in
     let mark = mark_of c.args.target.now in
     let book = c.args.book.now in
     let E = g.B.BrakingBook.emergencies book in
     let D = g.B.BrakingBook.services book in (
-      λ other lawful. not_from_Decides _ c.is-allowed.ensures c.if-not-is-allowed.true
-          (subst (Allowed track mark E D 0 (Go c.args.approach)) (sym c.fill-row-pass.ensures.next)
-          (approach_allowed E D (g.B.BrakingBook.laws book) track mark (codes_of c.fill-row-pass.new.row) c.fill-row-pass.ensures.found c.args.approach other lawful)),
+      λ other lawful. not_from_Decides _ c.is_allowed.ensures c.if-not-is_allowed.true
+          (subst (Allowed track mark E D 0 (Go c.args.approach)) (sym c.fill_row-pass.ensures.next)
+          (approach_allowed E D (g.B.BrakingBook.laws book) track mark (codes_of c.fill_row-pass.new.row) c.fill_row-pass.ensures.found c.args.approach other lawful)),
       refl,
     )
 
@@ -30,10 +30,10 @@ returns g c =
     let book = c.args.book.now in
     let E = g.B.BrakingBook.emergencies book in
     let D = g.B.BrakingBook.services book in
-    let copied = sym c.copy-row.ensures in
-    let allowed = subst (Allowed track mark E D 0 (Go c.args.approach)) c.fill-row-pass.ensures.next (c.is-allowed.ensures.0 c.if-not-is-allowed.false) in (
+    let copied = sym c.copy_row.ensures in
+    let allowed = subst (Allowed track mark E D 0 (Go c.args.approach)) c.fill_row-pass.ensures.next (c.is_allowed.ensures.0 c.if-not-is_allowed.false) in (
       subst (λ bytes. Highest track mark E D c.args.approach (codes_of bytes)) copied
-          (found_highest E D (g.B.BrakingBook.laws book) track mark (codes_of c.fill-row-pass.new.row) c.fill-row-pass.ensures.found c.args.approach allowed),
-      subst (Spells 0) copied c.fill-row-pass.ensures.spelt,
-      c.fill-row-pass.ensures.stage,
+          (found_highest E D (g.B.BrakingBook.laws book) track mark (codes_of c.fill_row-pass.new.row) c.fill_row-pass.ensures.found c.args.approach allowed),
+      subst (Spells 0) copied c.fill_row-pass.ensures.spelt,
+      c.fill_row-pass.ensures.stage,
     )

@@ -12,7 +12,7 @@ returns-in-Err g c =
     )
 
 pub returns-in-default : goal.returns-in-default
-returns-in-default g c = (slow c.in-Ok.target c.in-Ok.ensures (sym c.from-kmh.ensures ∙ c.in-default.is), refl)
+returns-in-default g c = (slow c.in-Ok.target c.in-Ok.ensures (sym c.from_kmh.ensures ∙ c.in-default.is), refl)
 
 pub returns-then-row-target : goal.returns-then-row-target
 returns-then-row-target g c =
@@ -32,5 +32,5 @@ returns g c =
       asked = record { located = c.in-Ok.ensures; approaches = sym c.in-Some.ensures };
       spelt = settled.1;
       highest = settled.0;
-      ground = c.ground-told.ensures;
+      ground = c.ground_told.ensures;
     }

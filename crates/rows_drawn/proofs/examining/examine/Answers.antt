@@ -18,16 +18,16 @@ returns-in-Err g c =
     subst (Failed (drawing_of c.args.line.now) c.args.mark c.args.approach (g.B.BrakingBook.emergencies book) (g.B.BrakingBook.services book) c.args.row.now) (sym told.0) (absent told.1)
 
 pub returns-in-default : goal.returns-in-default
-returns-in-default g c = slow c.in-Ok.target c.in-Ok.ensures (sym c.from-kmh.ensures ∙ c.in-default.is)
+returns-in-default g c = slow c.in-Ok.target c.in-Ok.ensures (sym c.from_kmh.ensures ∙ c.in-default.is)
 
 pub returns-then-row-target : goal.returns-then-row-target
 returns-then-row-target g c =
     size c.in-Ok.target c.in-Some.speed (record { located = c.in-Ok.ensures; approaches = sym c.in-Some.ensures }) c.if-row-target.true
 
-pub returns-then-not-are-codes : goal.returns-then-not-are-codes
-returns-then-not-are-codes g c =
+pub returns-then-not-are_codes : goal.returns-then-not-are_codes
+returns-then-not-are_codes g c =
     strange c.in-Ok.target c.in-Some.speed (record { located = c.in-Ok.ensures; approaches = sym c.in-Some.ensures }) c.if-row-target.false
-    (not_from_Decides _ c.are-codes.ensures c.if-not-are-codes.true)
+    (not_from_Decides _ c.are_codes.ensures c.if-not-are_codes.true)
 
 pub returns-in-None : goal.returns-in-None
 returns-in-None g c =
@@ -36,20 +36,20 @@ returns-in-None g c =
       target = c.in-Ok.target;
       speed = c.in-Some.speed;
       asked = record { located = c.in-Ok.ensures; approaches = sym c.in-Some.ensures };
-      spelt = c.are-codes.ensures.0 c.if-not-are-codes.false;
+      spelt = c.are_codes.ensures.0 c.if-not-are_codes.false;
       lawful = lawful_from_known (track_of c.args.line.now) (mark_of c.in-Ok.target) (g.B.BrakingBook.emergencies book) (g.B.BrakingBook.services book) c.in-Some.speed (codes_of c.args.row.now)
           (length-map c.args.row.now read_code ∙ c.if-row-target.false) c.in-None.ensures;
     }
 
-pub returns-in-Some-first-break : goal.returns-in-Some-first-break
-returns-in-Some-first-break g c =
+pub returns-in-Some-first_break : goal.returns-in-Some-first_break
+returns-in-Some-first_break g c =
     let book = c.args.book.now in
     let line = c.args.line.now in
     let E = g.B.BrakingBook.emergencies book in
     let D = g.B.BrakingBook.services book in
-    let found = c.in-Some-first-break.found in
-    let known = c.in-Some-first-break.ensures in
+    let found = c.in-Some-first_break.found in
+    let known = c.in-Some-first_break.ensures in
     subst (λ n. Failed (drawing_of line) c.args.mark c.args.approach E D c.args.row.now (12, found.interval ∷ n ∷ [])) known.numbered
     (unlawful c.in-Ok.target c.in-Some.speed (record { located = c.in-Ok.ensures; approaches = sym c.in-Some.ensures }) c.if-row-target.false
-    (c.are-codes.ensures.0 c.if-not-are-codes.false) found.interval known.rule
+    (c.are_codes.ensures.0 c.if-not-are_codes.false) found.interval known.rule
     (breaks_from_known (track_of line) (mark_of c.in-Ok.target) E D c.in-Some.speed (codes_of c.args.row.now) found known))

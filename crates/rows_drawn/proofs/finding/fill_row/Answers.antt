@@ -25,8 +25,8 @@ loop-i-init g c =
       λ k low high. absurd (omega arith),
     )
 
-pub begin-of-begin-requires : goal.begin-of-begin-requires
-begin-of-begin-requires g c =
+pub begin_of-begin-requires : goal.begin_of-begin-requires
+begin_of-begin-requires g c =
     let line = c.args.line.now in
     let inv = c.loop-i.invariant in
     let here : c.loop-i.i - 1 + 1 ≡ c.loop-i.i = let some = c.loop-i-test.true in omega arith in
@@ -48,13 +48,13 @@ loop-i-preserved g c =
     let here : c.loop-i.i ≡ suc n = omega arith in
     let plus : n + 1 ≡ suc n = omega arith in
     let back : n + 1 - 1 ≡ n = omega arith in
-    let code = c.highest-within-code.result in
+    let code = c.highest_within-code.result in
     let room : suc n ≤ length row = let within = inv.0.within in let long = c.loop-i.auto.row in let size = c.requires.size in omega arith in
     let next : c.loop-i.pass.next ≡ get_or (codes_of row) (suc n) Stop = inv.2 ∙ ap (λ i. get_or (codes_of row) i Stop) here in
-    let five : Five (track_of line) (mark_of target) E D (suc n) (get_or (codes_of row) (suc n) Stop) c.caps-at-caps.result =
-    subst (λ w. Five (track_of line) (mark_of target) E D (suc n) w c.caps-at-caps.result) next
-    (subst (λ i. Five (track_of line) (mark_of target) E D i c.loop-i.pass.next c.caps-at-caps.result) plus c.caps-at-caps.ensures) in
-    let highest = highest_from_five (track_of line) (mark_of target) E D (suc n) (get_or (codes_of row) (suc n) Stop) c.caps-at-caps.result five code c.highest-within-code.ensures in (
+    let five : Five (track_of line) (mark_of target) E D (suc n) (get_or (codes_of row) (suc n) Stop) c.caps_at-caps.result =
+    subst (λ w. Five (track_of line) (mark_of target) E D (suc n) w c.caps_at-caps.result) next
+    (subst (λ i. Five (track_of line) (mark_of target) E D i c.loop-i.pass.next c.caps_at-caps.result) plus c.caps_at-caps.ensures) in
+    let highest = highest_from_five (track_of line) (mark_of target) E D (suc n) (get_or (codes_of row) (suc n) Stop) c.caps_at-caps.result five code c.highest_within-code.ensures in (
       subst (λ i. Stage line target E D i c.further-pass.result) back c.further-pass.ensures.stage,
       found_more (track_of line) (mark_of target) E D n row c.byte.result code (subst (λ i. FoundFrom (track_of line) (mark_of target) E D i (codes_of row)) here inv.1) room c.byte.ensures highest,
       c.further-pass.ensures.next ∙ sym (code_set (track_of line) (mark_of target) E D n row c.byte.result code room c.byte.ensures),

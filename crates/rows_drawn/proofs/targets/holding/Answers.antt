@@ -17,8 +17,8 @@ returns-then-sought-begin c h first last begins ends =
 pub loop-i-init : goal.loop-i-init
 loop-i-init c = (sym (moved_none c.args.start (lengths_of c.args.intervals.now)), omega arith)
 
-pub returns-then-is-not-behind : goal.returns-then-is-not-behind
-returns-then-is-not-behind c =
+pub returns-then-is_not_behind : goal.returns-then-is_not_behind
+returns-then-is_not_behind c =
     let intervals = c.args.intervals.now in
     let i = c.loop-i.i in
     let count = length-map intervals (λ (interval : Interval). interval.length) in
@@ -29,14 +29,14 @@ returns-then-is-not-behind c =
       begin_is = c.loop-i.invariant.0 ∙ here;
       end_is = end_here c.args.start intervals i c.loop-i.begin _ c.loop-i-test.true c.loop-i.invariant.0 (sym (length_at intervals i _ c.loop-i-test.true));
       begins = c.loop-i.invariant.1;
-      ends = c.is-not-behind.ensures.0 c.if-is-not-behind.true;
+      ends = c.is_not_behind.ensures.0 c.if-is_not_behind.true;
     }
 
 pub loop-i-preserved : goal.loop-i-preserved
 loop-i-preserved c =
     let intervals = c.args.intervals.now in
     let i = c.loop-i.i in
-    (end_here c.args.start intervals i c.loop-i.begin _ c.loop-i-test.true c.loop-i.invariant.0 (sym (length_at intervals i _ c.loop-i-test.true)), let behind = not_from_Decides _ c.is-not-behind.ensures c.if-is-not-behind.false in omega arith)
+    (end_here c.args.start intervals i c.loop-i.begin _ c.loop-i-test.true c.loop-i.invariant.0 (sym (length_at intervals i _ c.loop-i-test.true)), let behind = not_from_Decides _ c.is_not_behind.ensures c.if-is_not_behind.false in omega arith)
 
 pub returns : goal.returns
 returns c h first last begins ends =

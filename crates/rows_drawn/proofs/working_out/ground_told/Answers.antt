@@ -13,8 +13,8 @@ use Rattle.rows_drawn.proofs.Grounds.{first_within, first_of_ground}
 use Rattle.rows_drawn.proofs.Beside.{stands}
 use Rattle.rows_drawn.proofs.working_out.ground_told.Goals as goal
 
-pub end-of-begin-requires : goal.end-of-begin-requires
-end-of-begin-requires g c =
+pub end_of-begin-requires : goal.end_of-begin-requires
+end_of-begin-requires g c =
     let line = c.args.line.now in
     let target = c.args.target.now in
     let book = c.args.book.now in
@@ -36,6 +36,6 @@ returns g c =
     record {
       first = first_of_ground (track_of line) (mark_of target) (g.B.BrakingBook.emergencies book) (g.B.BrakingBook.services book) (g.B.BrakingBook.distances book) (stands line target c.requires.located) place c.requires.stage.reached;
       tells =
-          c.letter_of.ensures ∙ ap letter_of (c.worst-over-class.ensures.value ∙ ap (λ n. stretch_value steepness line.gradients.now n target.position)
-          (let begin = c.end-of-begin.ensures in let before = c.saturating-sub.ensures in let e : c.saturating-sub.result ≡ begin_of (track_of line) place - 170 = omega arith in e));
+          c.letter_of.ensures ∙ ap letter_of (c.worst_over-class.ensures.value ∙ ap (λ n. stretch_value steepness line.gradients.now n target.position)
+          (let begin = c.end_of-begin.ensures in let before = c.saturating_sub.ensures in let e : c.saturating_sub.result ≡ begin_of (track_of line) place - 170 = omega arith in e));
     }

@@ -17,10 +17,10 @@ returns-else-allowed g c =
     let book = c.args.book.now in
     let E = g.B.BrakingBook.emergencies book in
     let D = g.B.BrakingBook.services book in (
-      λ other lawful. not_from_Decides _ c.is-allowed-allowed.ensures c.if-allowed.false
-          (subst (Allowed track mark E D 0 (Go c.args.approach)) (sym c.fill-row-pass.ensures.next)
-          (approach_allowed E D (g.B.BrakingBook.laws book) track mark (codes_of c.fill-row-pass.new.row) c.fill-row-pass.ensures.found c.args.approach other lawful)),
-      c.copy-lawful.ensures ∙ cond-false c.is-allowed-allowed.result _ _ c.if-allowed.false,
+      λ other lawful. not_from_Decides _ c.is_allowed-allowed.ensures c.if-allowed.false
+          (subst (Allowed track mark E D 0 (Go c.args.approach)) (sym c.fill_row-pass.ensures.next)
+          (approach_allowed E D (g.B.BrakingBook.laws book) track mark (codes_of c.fill_row-pass.new.row) c.fill_row-pass.ensures.found c.args.approach other lawful)),
+      c.copy_lawful.ensures ∙ cond-false c.is_allowed-allowed.result _ _ c.if-allowed.false,
     )
 
 pub returns-then-allowed : goal.returns-then-allowed
@@ -30,10 +30,10 @@ returns-then-allowed g c =
     let book = c.args.book.now in
     let E = g.B.BrakingBook.emergencies book in
     let D = g.B.BrakingBook.services book in
-    let copied = sym (c.copy-lawful.ensures ∙ cond-true c.is-allowed-allowed.result _ _ c.if-allowed.true) in
-    let allowed = subst (Allowed track mark E D 0 (Go c.args.approach)) c.fill-row-pass.ensures.next (c.is-allowed-allowed.ensures.0 c.if-allowed.true) in (
+    let copied = sym (c.copy_lawful.ensures ∙ cond-true c.is_allowed-allowed.result _ _ c.if-allowed.true) in
+    let allowed = subst (Allowed track mark E D 0 (Go c.args.approach)) c.fill_row-pass.ensures.next (c.is_allowed-allowed.ensures.0 c.if-allowed.true) in (
       subst (λ bytes. Highest track mark E D c.args.approach (codes_of bytes)) copied
-          (found_highest E D (g.B.BrakingBook.laws book) track mark (codes_of c.fill-row-pass.new.row) c.fill-row-pass.ensures.found c.args.approach allowed),
-      subst (Spells 0) copied c.fill-row-pass.ensures.spelt,
-      c.fill-row-pass.ensures.stage,
+          (found_highest E D (g.B.BrakingBook.laws book) track mark (codes_of c.fill_row-pass.new.row) c.fill_row-pass.ensures.found c.args.approach allowed),
+      subst (Spells 0) copied c.fill_row-pass.ensures.spelt,
+      c.fill_row-pass.ensures.stage,
     )

@@ -20,7 +20,7 @@ returns-in-Err g c =
 
 pub returns-in-default : goal.returns-in-default
 returns-in-default g c =
-    let none = sym c.from-kmh.ensures ∙ c.in-default.is in
+    let none = sym c.from_kmh.ensures ∙ c.in-default.is in
     record {
       cases = (slow c.in-Ok.target c.in-Ok.ensures none, refl);
       passes = tt;
@@ -53,7 +53,7 @@ returns-in-Some-settled g c =
     let E = g.B.BrakingBook.emergencies c.args.book.now in
     let D = g.B.BrakingBook.services c.args.book.now in
     let bytes = c.settled.new.row in
-    let told = c.ground-told.result in
+    let told = c.ground_told.result in
     let settled = c.in-Some-settled.ensures in
     let worked : Worked line c.args.mark c.args.approach E D bytes told.0 told.1 =
     record {
@@ -62,7 +62,7 @@ returns-in-Some-settled g c =
       asked = record { located = c.in-Ok.ensures; approaches = sym c.in-Some.ensures };
       spelt = settled.1;
       highest = settled.0;
-      ground = c.ground-told.ensures;
+      ground = c.ground_told.ensures;
     } in
     record {
       cases = worked;

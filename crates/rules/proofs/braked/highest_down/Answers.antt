@@ -4,4 +4,4 @@ use Rattle.rules.proofs.braked.highest_down.Goals as goal
 pub returns : goal.returns
 returns g c =
     let book = c.args.book.now in
-    down_up_to (g.B.BrakingBook.emergencies book) (g.B.BrakingBook.services book) (g.B.BrakingBook.laws book) c.args.class c.args.metres c.args.to c.highest-passing.result c.highest-passing.ensures
+    down_up_to (g.B.BrakingBook.emergencies book) (g.B.BrakingBook.services book) (g.B.BrakingBook.laws book) c.args.class c.args.metres c.args.to c.highest_passing.result c.highest_passing.ensures

@@ -7,6 +7,6 @@ returns g c =
     let book = c.args.book.now in
     let line = c.args.line.now in
     record {
-      caps = λ track mark j. caps_at (g.B.BrakingBook.emergencies book) (g.B.BrakingBook.services book) c.placed-limits.result track mark j line.gradients.now line.restrictions.now c.args.place.now c.placed-limits.ensures;
+      caps = λ track mark j. caps_at (g.B.BrakingBook.emergencies book) (g.B.BrakingBook.services book) c.placed_limits.result track mark j line.gradients.now line.restrictions.now c.args.place.now c.placed_limits.ensures;
       readings = readings;
     }

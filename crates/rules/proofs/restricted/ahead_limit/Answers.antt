@@ -9,7 +9,7 @@ pub loop-restriction-preserved : goal.loop-restriction-preserved
 loop-restriction-preserved g c =
     lowest_more (Braked (g.B.BrakingBook.emergencies c.args.book.now) c.args.gradients.now c.args.place.now) c.args.restrictions.now
     c.loop-restriction.restriction-index _ c.loop-restriction-test.true
-    c.loop-restriction.limit c.ahead-code.result c.lower-of-limit.result c.loop-restriction.invariant c.ahead-code.ensures c.lower-of-limit.ensures
+    c.loop-restriction.limit c.ahead_code.result c.lower_of-limit.result c.loop-restriction.invariant c.ahead_code.ensures c.lower_of-limit.ensures
 
 pub returns : goal.returns
 returns g c =

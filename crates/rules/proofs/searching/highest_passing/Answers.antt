@@ -9,11 +9,11 @@ returns-then-left-eq0 g c v = failed_above (g.T.SpeedTest.passed c.args.test.now
 pub returns-then-passes : goal.returns-then-passes
 returns-then-passes g c = (
   sym c.if-passes.ensures,
-  λ v higher. failed_higher (g.T.SpeedTest.passed c.args.test.now) c.loop-left.left c.loop-left.invariant.1 v (omega arith) (omega arith) (subst (λ u. kmh u < kmh v) c.speed-at-speed.ensures higher),
+  λ v higher. failed_higher (g.T.SpeedTest.passed c.args.test.now) c.loop-left.left c.loop-left.invariant.1 v (omega arith) (omega arith) (subst (λ u. kmh u < kmh v) c.speed_at-speed.ensures higher),
 )
 
 pub loop-left-preserved : goal.loop-left-preserved
 loop-left-preserved g c = (
   omega arith,
-  failed_more (g.T.SpeedTest.passed c.args.test.now) c.loop-left.left c.loop-left.invariant.1 c.speed-at-speed.result c.speed-at-speed.ensures (sym c.if-passes.ensures),
+  failed_more (g.T.SpeedTest.passed c.args.test.now) c.loop-left.left c.loop-left.invariant.1 c.speed_at-speed.result c.speed_at-speed.ensures (sym c.if-passes.ensures),
 )

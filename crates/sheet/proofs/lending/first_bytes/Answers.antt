@@ -12,4 +12,4 @@ take-least count least xs is =
     ]
 
 pub returns : goal.returns
-returns c = take-least c.args.count c.min-end.result c.args.row-table.now c.min-end.ensures
+returns c = take-least c.args.count c.min-end.result c.args.row_table.now c.min-end.ensures

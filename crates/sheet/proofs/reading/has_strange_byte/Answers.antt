@@ -12,13 +12,13 @@ strange-more bytes i read known l is told inv =
     let after : Bool → Bool = λ b. not b || strange (drop (i + 1) bytes) in
     ap after (sym told) ∙ ap (λ o. after (is_some o)) is ∙ sym (at_drop_more strange bytes i 0 l) ∙ inv
 
-pub returns-then-is-none : goal.returns-then-is-none
-returns-then-is-none c =
-    strange-more c.args.bytes.now c.loop-byte.byte-index c.from-byte.result _ c.loop-byte-test.true c.from-byte.ensures c.if-is-none.ensures c.loop-byte.invariant
+pub returns-then-is_none : goal.returns-then-is_none
+returns-then-is_none c =
+    strange-more c.args.bytes.now c.loop-byte.byte-index c.from_byte.result _ c.loop-byte-test.true c.from_byte.ensures c.if-is_none.ensures c.loop-byte.invariant
 
 pub loop-byte-preserved : goal.loop-byte-preserved
 loop-byte-preserved c =
-    strange-more c.args.bytes.now c.loop-byte.byte-index c.from-byte.result _ c.loop-byte-test.true c.from-byte.ensures c.if-is-none.ensures c.loop-byte.invariant
+    strange-more c.args.bytes.now c.loop-byte.byte-index c.from_byte.result _ c.loop-byte-test.true c.from_byte.ensures c.if-is_none.ensures c.loop-byte.invariant
 
 pub returns : goal.returns
 returns c = sym (at_drop_all strange c.args.bytes.now c.loop-byte.byte-index c.loop-byte-test.false) ∙ c.loop-byte.invariant

@@ -6,6 +6,6 @@ use Rattle.texts.proofs.readers.first_line.Goals as goal
 
 pub returns : goal.returns
 returns c some =
-    let line = sym c.split-front.ensures.front in
-    let behind = sym (c.without-first.ensures ∙ ap (drop 1) c.split-front.ensures.rest) in
+    let line = sym c.split_front.ensures.front in
+    let behind = sym (c.without_first.ensures ∙ ap (drop 1) c.split_front.ensures.rest) in
     ended_front (separates LineFeed) c.args.text.now some ∙ (λ i. line i ∷ lines_in (behind i))

@@ -7,7 +7,7 @@ pub returns : goal.returns
 returns g c =
     let E = g.B.BrakingBook.emergencies (book_of c.args.self) in (
       search rules,
-      runs_over E g.T.Train.numbers c.args.gradients.now c.in-use-ground.result.now c.args.row-table.now c.first-bytes.result.now
-          c.depart-head.result c.depart-head.new.train c.args.self c.args.train c.code-in-first.result
-          c.in-use-ground.ensures c.first-bytes.ensures c.code-in-first.ensures c.depart-head.ensures,
+      runs_over E g.T.Train.numbers c.args.gradients.now c.in_use-ground.result.now c.args.row_table.now c.first_bytes.result.now
+          c.depart-head.result c.depart-head.new.train c.args.self c.args.train c.code_in-first.result
+          c.in_use-ground.ensures c.first_bytes.ensures c.code_in-first.ensures c.depart-head.ensures,
     )
