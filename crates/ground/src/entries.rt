@@ -27,7 +27,7 @@ impl<V> Entry<V> {
 
 // The worst value so far at a metre, if any, once one entry more is looked at.
 fn worsened<V: Graded>(so_far: Option<V>, entry: &Entry<V>, metre: u64) -> Option<V>
-    ensures { result ≡ worsened grading metre so_far entry.now }
+    ensures { result ≡ worsened V.grading metre so_far entry.now }
 {
     if !entry.covers(metre) {
         return so_far;
@@ -40,7 +40,7 @@ fn worsened<V: Graded>(so_far: Option<V>, entry: &Entry<V>, metre: u64) -> Optio
 
 // The value of a metre: the worst of the entries that cover it, or that of undrawn ground where none does.
 pub fn value_at<V: Graded>(entries: &[Entry<V>], metre: u64) -> V
-    ensures { result ≡ metre_value grading entries.now metre }
+    ensures { result ≡ metre_value V.grading entries.now metre }
 {
     let mut worst = None;
     for entry in entries {

@@ -12,7 +12,7 @@ use super::graded::Graded;
 
 // The worst value so far, once the ground at a change is looked at, if the change lies within the stretch.
 fn worsened_at<V: Graded>(entries: &[Entry<V>], from: u64, to: u64, worst: V, change: u64) -> V
-    ensures { result ≡ worsened_at grading entries.now from to worst change }
+    ensures { result ≡ worsened_at V.grading entries.now from to worst change }
 {
     if from < change && change < to {
         worst.worse(value_at(entries, change))
@@ -23,7 +23,7 @@ fn worsened_at<V: Graded>(entries: &[Entry<V>], from: u64, to: u64, worst: V, ch
 
 // The worst value so far, once the changes that an entry makes are looked at: where it begins and where it ends.
 fn worsened_by<V: Graded>(entries: &[Entry<V>], from: u64, to: u64, worst: V, entry: &Entry<V>) -> V
-    ensures { result ≡ worsened_by grading entries.now from to worst entry.now }
+    ensures { result ≡ worsened_by V.grading entries.now from to worst entry.now }
 {
     let at_begin = worsened_at(entries, from, to, worst, entry.from as u64);
     worsened_at(entries, from, to, at_begin, entry.to as u64)
@@ -32,7 +32,7 @@ fn worsened_by<V: Graded>(entries: &[Entry<V>], from: u64, to: u64, worst: V, en
 // The worst value over a stretch that has metres.
 fn worst_of_metres<V: Graded>(entries: &[Entry<V>], from: u64, to: u64) -> V
     requires { from < to }
-    ensures { result ≡ stretch_value grading entries.now from to }
+    ensures { result ≡ stretch_value V.grading entries.now from to }
 {
     let mut worst = value_at(entries, from);
     for entry in entries {
@@ -43,8 +43,8 @@ fn worst_of_metres<V: Graded>(entries: &[Entry<V>], from: u64, to: u64) -> V
 
 // The worst value of the metres `from` to `to` - 1; a stretch without metres counts as undrawn ground.
 pub fn worst_over<V: Graded>(entries: &[Entry<V>], from: u64, to: u64) -> V
-    ensures value { result ≡ stretch_value grading entries.now from to }
-    ensures laws { StretchLaws grading }
+    ensures value { result ≡ stretch_value V.grading entries.now from to }
+    ensures laws { StretchLaws V.grading }
 {
     if to <= from {
         return V::undrawn_value();
