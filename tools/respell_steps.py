@@ -4,12 +4,13 @@
 usage: python3 tools/respell_steps.py          at the top of the repository
 
 Rattle names a goal after the names of the source, which keep their spelling: what an older proof calls `returns-then-not-row-in-order`
-is `returns-then-not-row_in_order`, after the function `row_in_order`. It changes Answers.antt, Invariants.antt and Proof.antt alone.
+is `returns-then-not-row_in_order`, after the function `row_in_order`. So are the words of Rattle's own that have two parts (MADE). It changes Answers.antt, Invariants.antt and Proof.antt alone.
 """
 import os
 import re
 
 IDENTIFIER = re.compile(r"[A-Za-z0-9]*[a-z0-9]+(?:_[a-z0-9]+)+")
+MADE = ("in_ok", "in_err", "in_default", "invariant_of", "type_inv", "overflow_add", "overflow_sub", "overflow_mul", "overflow_shl", "overflow_shr", "overflow_cast", "overflow_step", "slice_bounds", "nonzero_div", "nonzero_rem", "offset_bounds")
 TOKEN = re.compile(r"[A-Za-z][A-Za-z0-9_']*(?:-[A-Za-z0-9_']+)+")
 
 
@@ -31,7 +32,7 @@ def respelt(token, pairs):
 
 def main():
     for crate in sorted(os.listdir("crates")):
-        pairs = [(n.replace("_", "-"), n) for n in source_names(os.path.join("crates", crate))]
+        pairs = [(n.replace("_", "-"), n) for n in [*source_names(os.path.join("crates", crate)), *MADE]]
         for folder, dirs, files in os.walk(os.path.join("crates", crate, "proofs")):
             for name in files:
                 if name not in ("Answers.antt", "Invariants.antt", "Proof.antt"):

@@ -51,5 +51,5 @@ records-preserved c =
     let item = c.in-Some.item in
     let hands = of-file c.records.reader.file.now c.args.file.now inv.0 place c.next.new.self.place c.in-Ok.read (Some item) c.in-Some.is c.in-Ok.ensures.hands in (
       c.in-Ok.ensures.same ∙ inv.0,
-      sofar_more c.args.file.now place c.records.table inv.1 (said item) hands.front.begins c.next.new.self.place hands.moved c.enter_record.new.table c.in-default.ensures,
+      sofar_more c.args.file.now place c.records.table inv.1 (said item) hands.front.begins c.next.new.self.place hands.moved c.enter_record.new.table c.in_default.ensures,
     )

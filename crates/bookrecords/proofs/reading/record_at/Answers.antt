@@ -10,6 +10,6 @@ returns c =
     let place = c.args.place in
     let rest : take (length file - place) (drop place file) ≡ drop place file = take_rest file place in
     let fronts =
-    fronts_from_told (drop place file) (λ i. let fits = c.type-inv.file (place + i) in let at = get_or-drop place file i 0 in omega arith) place c.first_record.result
+    fronts_from_told (drop place file) (λ i. let fits = c.type_inv.file (place + i) in let at = get_or-drop place file i 0 in omega arith) place c.first_record.result
     (c.first_record.ensures.said ∙ ap decoded rest) c.first_record.ensures.placed in
     record { fronts = fronts; within = within_from_fronts file place c.requires c.first_record.result fronts }

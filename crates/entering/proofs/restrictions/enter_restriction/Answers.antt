@@ -8,18 +8,18 @@ use Rattle.entering.proofs.Fit.{restriction_fit}
 use Rattle.entering.proofs.Values.{no_speed_from_none, speed_from_some}
 use Rattle.entering.proofs.restrictions.enter_restriction.Goals as goal
 
-pub returns-in-err-check_room : goal.returns-in-err-check_room
-returns-in-err-check_room c =
+pub returns-in_err-check_room : goal.returns-in_err-check_room
+returns-in_err-check_room c =
     let broke = err_from_is_err_and c.from-residual.result c.from-residual.ensures.1 in
-    rw (broke.1, broke.2) (record { answer = refused_from_room c.args.table.now c.args.count _ _ _ _ c.in-err-check_room.ensures; after = refl; fit = tt })
+    rw (broke.1, broke.2) (record { answer = refused_from_room c.args.table.now c.args.count _ _ _ _ c.in_err-check_room.ensures; after = refl; fit = tt })
 
-pub returns-in-err-value : goal.returns-in-err-value
-returns-in-err-value c =
-    let none = no_speed_from_none c.args.kmh (sym c.from_kmh.ensures ∙ c.in-err-value.ensures.ok-part) in
+pub returns-in_err-value : goal.returns-in_err-value
+returns-in_err-value c =
+    let none = no_speed_from_none c.args.kmh (sym c.from_kmh.ensures ∙ c.in_err-value.ensures.ok-part) in
     search rules
 
 pub returns : goal.returns
 returns c =
-    let speed = speed_from_some c.args.kmh _ (sym c.from_kmh.ensures ∙ c.in-ok-value.ensures.ok-part) in
+    let speed = speed_from_some c.args.kmh _ (sym c.from_kmh.ensures ∙ c.in_ok-value.ensures.ok-part) in
     let answer : gives (c.args.count + 1) ≡ ruled (restriction_fault c.args.table.now c.args.count c.args.from c.args.to c.args.kmh) (c.args.count + 1) = search rules in
     record { answer = answer; after = cc; fit = restriction_fit c.args.table.now c.args.count _ _ _ (no_fault_from_gives _ _ _ answer).0 }

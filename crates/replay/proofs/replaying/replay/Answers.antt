@@ -10,8 +10,8 @@ returns-in-Err g c =
     let book = c.args.book.now in
     record { replays = (c.in-Err.ensures, refl); determined = determined (g.B.BrakingBook.emergencies book) (g.B.BrakingBook.services book) }
 
-pub returns-in-default : goal.returns-in-default
-returns-in-default g c =
+pub returns-in_default : goal.returns-in_default
+returns-in_default g c =
     let book = c.args.book.now in
     record { replays = (c.in-Ok.ensures.0, refl); determined = determined (g.B.BrakingBook.emergencies book) (g.B.BrakingBook.services book) }
 

@@ -4,8 +4,8 @@ use Rattle.rows.specs.Targets.{track_of, lengths_of}
 use Rattle.rows.proofs.Positions.{end_before, begin_back}
 use Rattle.rows.proofs.passing.begin_of.Goals as goal
 
-pub overflow-sub-result-2 : goal.overflow-sub-result-2
-overflow-sub-result-2 c =
+pub overflow_sub-result-2 : goal.overflow_sub-result-2
+overflow_sub-result-2 c =
     let line = c.args.line.now in
     let before = end_before line.start line.intervals.now c.args.j (record { number = 0; length = 0 }) (let n = c.if-j-eq0.false in omega arith) c.requires.within in
     let ends = c.requires.ends in

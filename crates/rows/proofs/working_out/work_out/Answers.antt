@@ -11,8 +11,8 @@ returns-in-Err g c =
       refl,
     )
 
-pub returns-in-default : goal.returns-in-default
-returns-in-default g c = (slow c.in-Ok.target c.in-Ok.ensures (sym c.from_kmh.ensures ∙ c.in-default.is), refl)
+pub returns-in_default : goal.returns-in_default
+returns-in_default g c = (slow c.in-Ok.target c.in-Ok.ensures (sym c.from_kmh.ensures ∙ c.in_default.is), refl)
 
 pub returns-then-row-target : goal.returns-then-row-target
 returns-then-row-target g c =

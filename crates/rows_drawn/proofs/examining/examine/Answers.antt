@@ -17,8 +17,8 @@ returns-in-Err g c =
     let told = c.in-Err.ensures in
     subst (Failed (drawing_of c.args.line.now) c.args.mark c.args.approach (g.B.BrakingBook.emergencies book) (g.B.BrakingBook.services book) c.args.row.now) (sym told.0) (absent told.1)
 
-pub returns-in-default : goal.returns-in-default
-returns-in-default g c = slow c.in-Ok.target c.in-Ok.ensures (sym c.from_kmh.ensures ∙ c.in-default.is)
+pub returns-in_default : goal.returns-in_default
+returns-in_default g c = slow c.in-Ok.target c.in-Ok.ensures (sym c.from_kmh.ensures ∙ c.in_default.is)
 
 pub returns-then-row-target : goal.returns-then-row-target
 returns-then-row-target g c =

@@ -8,8 +8,8 @@ use Rattle.rows_drawn.proofs.working_out.end_of.Goals as goal
 pub loop-i-init : goal.loop-i-init
 loop-i-init c = sym (moved_none c.args.line.now.start (lengths_of c.args.line.now.intervals.now))
 
-pub overflow-add-end : goal.overflow-add-end
-overflow-add-end c =
+pub overflow_add-end : goal.overflow_add-end
+overflow_add-end c =
     let line = c.args.line.now in
     let within : c.loop-i.i < length line.intervals.now = let less = c.loop-i-test.true in let all = c.requires.within in omega arith in
     let next = end_here line.start line.intervals.now c.loop-i.i c.loop-i.end _ within c.loop-i.invariant (sym (length_at line.intervals.now c.loop-i.i (record { number = 0; length = 0 }) within)) in

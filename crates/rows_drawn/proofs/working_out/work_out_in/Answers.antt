@@ -18,9 +18,9 @@ returns-in-Err g c =
       memory = lacks_not_absent (drawing_of c.args.line.now) c.args.mark c.args.approach c.args.row.now (length c.args.scratch.now) c.in-Err.refusal told.1;
     }
 
-pub returns-in-default : goal.returns-in-default
-returns-in-default g c =
-    let none = sym c.from_kmh.ensures ∙ c.in-default.is in
+pub returns-in_default : goal.returns-in_default
+returns-in_default g c =
+    let none = sym c.from_kmh.ensures ∙ c.in_default.is in
     record {
       cases = (slow c.in-Ok.target c.in-Ok.ensures none, refl);
       passes = tt;

@@ -9,7 +9,7 @@ returns-in-Unlawful c =
     let is = valued_is c.args.refusal _ _ c.number-number.ensures c.word_of-word.ensures _ _ c.in-Unlawful.is in
     IfOk-weaker c.valued_text.result _ (λ text. string_bytes text ≡ refusal_text c.args.refusal) (λ text e. e ∙ is) c.valued_text.ensures
 
-pub returns-in-default : goal.returns-in-default
-returns-in-default c =
-    let is = plain_is c.args.refusal _ _ c.number-number.ensures c.word_of-word.ensures c.in-default.not-Unlawful in
+pub returns-in_default : goal.returns-in_default
+returns-in_default c =
+    let is = plain_is c.args.refusal _ _ c.number-number.ensures c.word_of-word.ensures c.in_default.not-Unlawful in
     IfOk-weaker c.plain_text.result _ (λ text. string_bytes text ≡ refusal_text c.args.refusal) (λ text e. e ∙ is) c.plain_text.ensures

@@ -9,8 +9,8 @@ pub loop-byte-preserved : goal.loop-byte-preserved
 loop-byte-preserved c =
     let row = c.args.row.now in
     let place = c.loop-byte.byte-index in
-    let code = IfOk-at_ok (λ text. string_bytes text ≡ code_word (get_or row place 0) ++ codes " ") c.in-ok-code.was c.code_text.ensures in
-    let pushed = chosen _ _ _ _ c.push_str.ensures.bytes (ap is_ok c.in-ok-push_str.was) in
+    let code = IfOk-at_ok (λ text. string_bytes text ≡ code_word (get_or row place 0) ++ codes " ") c.in_ok-code.was c.code_text.ensures in
+    let pushed = chosen _ _ _ _ c.push_str.ensures.bytes (ap is_ok c.in_ok-push_str.was) in
     let now-is = pushed ∙ ap (λ l. string_bytes c.loop-byte.text ++ l) (c.as_str.ensures.value ∙ code) in
     ap (λ l. l ++ codes_text (drop (place + 1) row)) now-is ∙ sym (codes_more (string_bytes c.loop-byte.text) row place (omega arith)) ∙ c.loop-byte.invariant
 
