@@ -10,7 +10,7 @@ import os
 import re
 
 IDENTIFIER = re.compile(r"[A-Za-z0-9]*[a-z0-9]+(?:_[a-z0-9]+)+")
-MADE = ("in_ok", "in_err", "in_default", "invariant_of", "type_inv", "overflow_add", "overflow_sub", "overflow_mul", "overflow_shl", "overflow_shr", "overflow_cast", "overflow_step", "slice_bounds", "nonzero_div", "nonzero_rem", "offset_bounds")
+MADE = ("in_ok", "in_err", "from_residual", "into_iter", "in_default", "invariant_of", "type_inv", "overflow_add", "overflow_sub", "overflow_mul", "overflow_shl", "overflow_shr", "overflow_cast", "overflow_step", "slice_bounds", "nonzero_div", "nonzero_rem", "offset_bounds")
 TOKEN = re.compile(r"[A-Za-z][A-Za-z0-9_']*(?:-[A-Za-z0-9_']+)+")
 
 

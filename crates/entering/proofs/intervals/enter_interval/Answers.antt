@@ -9,7 +9,7 @@ use Rattle.entering.proofs.intervals.enter_interval.Goals as goal
 
 pub returns-in_err-check_room : goal.returns-in_err-check_room
 returns-in_err-check_room c =
-    let broke = err_from_is_err_and c.from-residual.result c.from-residual.ensures.1 in
+    let broke = err_from_is_err_and c.from_residual.result c.from_residual.ensures.1 in
     rw (broke.1, broke.2) (record { answer = refused_from_room c.args.table.now c.args.count _ _ _ _ c.in_err-check_room.ensures; after = refl; fit = tt })
 
 pub returns : goal.returns

@@ -9,7 +9,7 @@ use Rattle.sheet.proofs.judging.judge.Goals as goal
 pub returns-in_err-target : goal.returns-in_err-target
 returns-in_err-target g c =
     let book = c.args.book.now in
-    let broke = err_from_is_err_and c.from-residual-in_err-target.result c.from-residual-in_err-target.ensures.1 in
+    let broke = err_from_is_err_and c.from_residual-in_err-target.result c.from_residual-in_err-target.ensures.1 in
     let told = c.in_err-target.ensures in
     rw (broke.1, broke.2)
     (subst (Failed (drawing_of c.args.line.now) c.args.mark c.args.approach (g.B.BrakingBook.emergencies book) (g.B.BrakingBook.services book) c.args.row.now) (sym told.0) (absent told.1))
