@@ -11,7 +11,7 @@ returns-then-pass-j g c =
     let book = c.args.book.now in
     let pass = c.args.pass.now in
     record {
-      four = c.limits_at-four.ensures (track_of line) (mark_of target) c.args.j
+      four = c.limits_at-four.ensures.caps (track_of line) (mark_of target) c.args.j
           (record { drawn = refl; restricted = refl; begins = sym c.requires.begins; ends = sym c.requires.stage.ends; marked = refl; endangered = refl });
       next = beside_ground line target c.requires.located (g.B.BrakingBook.emergencies book) (g.B.BrakingBook.services book) (g.B.BrakingBook.distances book) c.args.j pass c.requires.stage c.if-pass-j.true pass.next;
     }
@@ -23,7 +23,7 @@ returns g c =
     let book = c.args.book.now in
     let pass = c.args.pass.now in
     record {
-      four = c.limits_at-four.ensures (track_of line) (mark_of target) c.args.j
+      four = c.limits_at-four.ensures.caps (track_of line) (mark_of target) c.args.j
           (record { drawn = refl; restricted = refl; begins = sym c.requires.begins; ends = sym c.requires.stage.ends; marked = refl; endangered = refl });
       next = before_ground line target c.requires.located (g.B.BrakingBook.emergencies book) (g.B.BrakingBook.services book) (g.B.BrakingBook.distances book) c.args.j pass c.requires.stage c.if-pass-j.false pass.next
           c.highest_towards-next.result c.highest_towards-next.ensures;
