@@ -20,7 +20,7 @@ fn tell_written(rt: &HostRuntime, file: &[u8]) -> anyhow::Result<()> {
     let size = file.len();
     let is_same = example.as_slice() == file;
     println!(rt; "written book: {size} bytes, as the example file: {is_same}")?;
-    let is_there = cut(file, 152).item == b"\x07\x00\x01\x00\x03\x78\x64\xa1\x01";
+    let is_there = cut(file, 152).item == b"\x07\x00\x01\x00\x03\x78\x64\xa1\x01".as_slice();
     println!(rt; "417 m from 120 to 100 in class 3 is 07 00 01 00 03 78 64 A1 01: {is_there}")?;
     let is_short_refused = written::refuses_buffer(heap, 5_246)?;
     let is_long_refused = written::refuses_buffer(heap, 5_248)?;
