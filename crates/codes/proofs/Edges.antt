@@ -1,5 +1,5 @@
 -- The class of a faldtal, from the classes that were passed over. Assumes nothing.
-use Rattle.std.proofs.Common.{◌≡◌, ℕ, zero, suc, ◌+◌, ◌-◌, ◌<◌, ◌≤◌, Bool, true, false, ◌&&◌, eqb, get_or, ℤ, pos, ◌≤ℤ◌, ◌<ℤ◌, sym, refl, subst, arith, eqb-true}
+use Rattle.std.proofs.Common.{◌≡◌, ℕ, zero, suc, ◌+◌, ◌<◌, ◌≤◌, Bool, true, ◌&&◌, eqb, get_or, ℤ, pos, ◌≤ℤ◌, ◌<ℤ◌, refl, arith, eqb-true}
 use lib.Signed.{le_z}
 use Rattle.std.proofs.lemmas.Int.{ints}
 use Rattle.std.proofs.lemmas.Bool.Decides.{Decides-below_and}

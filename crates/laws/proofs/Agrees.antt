@@ -1,5 +1,5 @@
 -- Books that answer every question alike keep the same laws. Assumes nothing.
-use Rattle.std.proofs.Common.{◌≡◌, ℕ, ◌<◌, ◌≤◌, arith}
+use Rattle.std.proofs.Common.{◌≡◌, arith}
 use Rattle.laws.specs.Books.{Emergencies, Services, Laws}
 use Rattle.laws.specs.Questions.{Question, emergency, service, Asks, figure}
 

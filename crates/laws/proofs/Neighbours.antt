@@ -1,12 +1,10 @@
 -- Figures in order with their neighbours keep the four laws, and figures that keep them are in order. Assumes nothing.
-use Rattle.std.proofs.Common.{◌≡◌, ℕ, zero, suc, ◌+◌, ◌-◌, ◌<◌, ◌≤◌, Bool, true, false, not, ◌&&◌, ◌||◌, ltb, leb, ◌⊎◌, List, [], ◌∷◌, length, get_or, drop, Some, None, Decides, Option, sym, refl, ap, ◌∙◌, subst, inl, inr, le_trans, le_refl, le_of_suc-le-suc, eq-or-lt_of_le, add-one, arith, ltb-true, lt-ltb, le-leb, leb-true}
+use Rattle.std.proofs.Common.{◌≡◌, ℕ, zero, suc, ◌+◌, ◌-◌, ◌<◌, ◌≤◌, Bool, true, false, not, ◌&&◌, ◌||◌, leb, ◌⊎◌, List, [], ◌∷◌, length, get_or, Some, None, Decides, Option, refl, subst, inl, inr, le_trans, le_refl, arith, ltb-true, lt-ltb, le-leb, leb-true}
 use Rattle.std.proofs.lemmas.Bool.{and_parts, and_from}
 use Rattle.codes.specs.declared.speeds.Speed.{Speed}
-use Rattle.codes.specs.declared.speeds.Speed.TheVariants.{V30}
 use Rattle.codes.specs.declared.speeds.Code.{Code}
-use Rattle.codes.specs.declared.speeds.Code.TheVariants.{Stop, Go}
+use Rattle.codes.specs.declared.speeds.Code.TheVariants.{Go}
 use Rattle.codes.specs.declared.gradients.Class.{Class}
-use Rattle.codes.specs.declared.gradients.Class.TheVariants.{C1}
 use Rattle.codes.specs.Speeds.{kmh, byte, lower, speeds, codes}
 use Rattle.codes.specs.Gradients.{number, classes}
 use Rattle.laws.specs.Books.{Emergencies, Services, Laws}

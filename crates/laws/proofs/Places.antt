@@ -1,17 +1,14 @@
 -- Each question has a place of its own in the writing order. Assumes nothing.
-use Rattle.std.proofs.Common.{◌≡◌, ℕ, zero, suc, ◌+◌, ◌-◌, ◌*◌, ◌<◌, ◌≤◌, Bool, true, false, not, ◌&&◌, ◌||◌, eqb, ltb, leb, ◌⊎◌, List, [], ◌∷◌, map, length, get_or, sym, refl, ap, ◌∙◌, subst, inl, inr, arith, ltb-true, eqb-true, leb-true}
+use Rattle.std.proofs.Common.{◌≡◌, ℕ, zero, suc, ◌+◌, ◌-◌, ◌*◌, ◌<◌, ◌≤◌, Bool, true, ◌&&◌, eqb, ltb, List, [], ◌∷◌, length, get_or, refl, ap, ◌∙◌, inl, inr, arith, ltb-true, eqb-true}
 use Rattle.std.proofs.lemmas.List.{get_or-map, length-map}
 use Rattle.std.proofs.lemmas.Bool.{and_parts, cases_order}
-use Rattle.std.proofs.lemmas.Bool.Decides.{Decides-below_and}
 use Rattle.codes.specs.declared.speeds.Speed.{Speed}
 use Rattle.codes.specs.declared.speeds.Code.{Code}
 use Rattle.codes.specs.declared.gradients.Class.{Class}
-use Rattle.codes.specs.declared.gradients.Class.TheVariants.{C1}
-use Rattle.codes.specs.declared.speeds.Speed.TheVariants.{V30}
 use Rattle.codes.specs.Speeds.{kmh, byte}
 use Rattle.codes.specs.Gradients.{number}
 use Rattle.laws.specs.Books.{Emergencies, Services}
-use Rattle.laws.specs.Questions.{Question, emergency, service, Asks, figure, column, rank, before, place, questions, written, emergency_of, service_of}
+use Rattle.laws.specs.Questions.{Question, emergency, service, Asks, figure, column, rank, before, place, questions, written}
 use Rattle.laws.proofs.Neighbours.{same_speed, same_code, same_class}
 
 number_within : (k : Class) → (1 ≤ number k) × (number k ≤ 11)

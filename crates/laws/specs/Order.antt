@@ -2,7 +2,7 @@
 --     each xs test          the test passes at each of xs
 --     next_speed v, next_code c, next_class k    the next higher speed or code and the next steeper class, if there is one
 --     in_order E D          no figure stands wrongly to that of a neighbouring question
-use Rattle.std.specs.Prelude.{ℕ, Bool, true, false, not, ◌&&◌, ◌||◌, leb, List, [], ◌∷◌, Some, None, Option, nat_le}
+use Rattle.std.specs.Prelude.{Bool, true, not, ◌&&◌, ◌||◌, leb, List, [], ◌∷◌, Some, None, Option, nat_le}
 use Rattle.codes.specs.declared.speeds.Speed.{Speed}
 use Rattle.codes.specs.declared.speeds.Speed.TheVariants.{V30, V40, V50, V60, V70, V80, V90, V100, V120}
 use Rattle.codes.specs.declared.speeds.Code.{Code}

@@ -6,7 +6,7 @@
 --     written E D        the figures of a book in writing order
 --     place q            the place of q's figure in writing order, counted from 0
 --     emergency_of xs, service_of xs    what a table of figures in writing order means
-use Rattle.std.specs.Prelude.{ℕ, ◌+◌, ◌-◌, ◌*◌, ◌<◌, List, [], ◌∷◌, ◌++◌, map, take, slice_index}
+use Rattle.std.specs.Prelude.{ℕ, ◌+◌, ◌-◌, ◌*◌, ◌<◌, List, ◌++◌, map, take, slice_index}
 use Rattle.std.specs.List.{flat_map}
 use Rattle.codes.specs.declared.speeds.Speed.{Speed}
 use Rattle.codes.specs.declared.speeds.Speed.TheVariants.{V30, V40, V50, V60, V70, V80, V90, V100, V120}

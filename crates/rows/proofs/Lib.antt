@@ -1,8 +1,8 @@
 mod Bytes
-mod Positions
+pub mod Positions
 mod Marks
-mod Higher
-mod Grounds
+pub mod Higher
+pub mod Grounds
 mod Settles
 mod Stopped
 mod Beside

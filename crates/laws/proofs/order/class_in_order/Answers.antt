@@ -1,4 +1,4 @@
-use Rattle.std.proofs.Common.{◌≡◌, sym, ◌∙◌}
+use Rattle.std.proofs.Common.{sym, ◌∙◌}
 use Rattle.codes.specs.declared.speeds.Speed.TheVariants.{V30}
 use Rattle.codes.specs.Speeds.{speeds}
 use Rattle.laws.specs.Order.{row_in_order}

@@ -1,4 +1,4 @@
-use Rattle.std.proofs.Common.{◌≡◌, Bool, sym, ◌∙◌}
+use Rattle.std.proofs.Common.{sym, ◌∙◌}
 use Rattle.std.proofs.lemmas.Bool.{and_from, and_right}
 use Rattle.codes.specs.declared.speeds.Code.TheVariants.{Stop}
 use Rattle.codes.specs.Speeds.{codes}
