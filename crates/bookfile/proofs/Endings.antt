@@ -1,5 +1,5 @@
 -- What is known once all records of a file were entered. Assumes nothing.
-use Rattle.std.proofs.Common.{◌≡◌, ℕ, ◌<◌, ◌≤◌, true, false, List, [], ◌∷◌, length, get_or, replicate, Ok, Err, Result, sym, refl, ap, ◌∙◌, subst, arith}
+use Rattle.std.proofs.Common.{◌≡◌, ℕ, ◌≤◌, true, false, List, [], ◌∷◌, length, get_or, replicate, Ok, Err, Result, sym, refl, ap, ◌∙◌, subst, arith}
 use Rattle.codes.specs.declared.gradients.Class.TheVariants.{C1}
 use Rattle.codes.specs.declared.speeds.Speed.TheVariants.{V30}
 use Rattle.laws.specs.Books.{Laws}

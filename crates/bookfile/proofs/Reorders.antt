@@ -1,12 +1,11 @@
 -- The order of records and the remarks make no difference to the book. Assumes nothing.
-use Rattle.std.proofs.Common.{◌≡◌, ℕ, ◌+◌, ◌<◌, ◌≤◌, Bool, true, false, cond, List, [], ◌∷◌, ◌++◌, length, Ok, Err, sum_by, Result, sym, refl, ap, ◌∙◌, subst, zero-add, arith}
+use Rattle.std.proofs.Common.{◌≡◌, ℕ, ◌+◌, ◌≤◌, Bool, true, false, cond, List, [], ◌∷◌, length, Ok, Err, sum_by, Result, sym, refl, ap, ◌∙◌, zero-add, arith}
 use Rattle.std.specs.List.Sorted.{IsPermutation}
-use Rattle.std.specs.List.{AllByRecursion as All}
 use Rattle.std.proofs.lemmas.List.Sorted.{sum_by-IsPermutation}
 use Rattle.std.proofs.lemmas.List.Sums.{sum_by-cons}
 use Rattle.laws.specs.Books.{Emergencies, Services}
-use Rattle.laws.specs.Questions.{Question, Asks, figure, emergency_of, service_of}
-use Rattle.bookrecords.specs.Records.{Said, states, remarks, spelling, Possible}
+use Rattle.laws.specs.Questions.{Question, figure, emergency_of, service_of}
+use Rattle.bookrecords.specs.Records.{Said, states, remarks}
 use Rattle.bookrecords.specs.Files.{same, given, Means}
 use Rattle.bookrecords.proofs.Unique.{same_records}
 use Rattle.bookfile.specs.declared.faults.Fault.{Fault}

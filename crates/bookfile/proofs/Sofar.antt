@@ -1,17 +1,17 @@
 -- What is known of a file and a table while its records are entered. Assumes nothing.
-use Rattle.std.proofs.Common.{◌≡◌, ℕ, ◌+◌, ◌-◌, ◌<◌, ◌≤◌, List, [], ◌∷◌, ◌++◌, length, get_or, drop, set, replicate, Ok, Err, Result, sym, refl, ap, ◌∙◌, subst, arith}
+use Rattle.std.proofs.Common.{◌≡◌, ℕ, ◌+◌, ◌<◌, ◌≤◌, List, [], ◌∷◌, ◌++◌, length, get_or, drop, replicate, Ok, Err, sym, refl, ap, ◌∙◌, subst, arith}
 use Rattle.std.specs.List.{AllByRecursion as All}
 use Rattle.std.proofs.ByRecursion.{All-push}
 use Rattle.std.proofs.lemmas.List.{append-nil, append_assoc, length-append, length-set, length-drop, length-replicate, drop-drop, drop_all}
 use Rattle.codes.specs.declared.refusals.Refusal.{Refusal}
 use Rattle.codes.specs.Refusals.{refuses, notice}
-use Rattle.laws.specs.Questions.{Question, place}
+use Rattle.laws.specs.Questions.{place}
 use Rattle.bookrecords.specs.Records.{Said, states, remarks, spelt, spelling, Possible, Begins}
 use Rattle.bookrecords.specs.Decoding.{decoded}
 use Rattle.bookrecords.specs.Files.{given}
 use Rattle.bookrecords.proofs.Unique.{spelling_push}
 use Rattle.bookfile.specs.Faults.{Sound, Faulty, damaged, twice}
-use Rattle.bookfile.specs.Entering.{entry, Holds, Entered, Enters, Filled}
+use Rattle.bookfile.specs.Entering.{Holds, Enters, Filled}
 use Rattle.bookfile.proofs.Entries.{holds_none, holds_remark, holds_more, sound_from_holds, entry_some}
 
 -- the records before place p were entered into the table xs

@@ -1,20 +1,20 @@
 -- A faulty file is not that of any book. Assumes nothing.
-use Rattle.std.proofs.Common.{◌≡◌, ℕ, ◌+◌, ◌<◌, ◌≤◌, true, false, List, [], ◌∷◌, ◌++◌, length, is_ok, Ok, Err, Decides, Result, sym, refl, ap, ◌∙◌, subst, arith, eq-eqb}
+use Rattle.std.proofs.Common.{◌≡◌, ℕ, ◌<◌, List, [], ◌∷◌, ◌++◌, length, is_ok, Ok, Err, Decides, Result, sym, refl, ap, ◌∙◌, arith, eq-eqb}
 use Rattle.std.specs.List.{AllByRecursion as All}
-use Rattle.std.proofs.lemmas.List.{length-append, append-nil}
+use Rattle.std.proofs.lemmas.List.{length-append}
 use Rattle.std.proofs.lemmas.Bool.{cond-true}
-use Rattle.codes.specs.Refusals.{Told, gives, refuses}
-use Rattle.laws.specs.Books.{Emergencies, Services, Laws}
-use Rattle.laws.specs.Questions.{Question, Asks, figure, place}
+use Rattle.codes.specs.Refusals.{gives, refuses}
+use Rattle.laws.specs.Books.{Emergencies, Services}
+use Rattle.laws.specs.Questions.{Question, figure, place}
 use Rattle.laws.proofs.Agrees.{same_laws}
-use Rattle.bookrecords.specs.Records.{Said, states, remarks, spelt, spelling, Possible}
+use Rattle.bookrecords.specs.Records.{Said, states, spelt, spelling, Possible}
 use Rattle.bookrecords.specs.Decoding.{decoded}
 use Rattle.bookrecords.specs.Files.{same, given, Means}
 use Rattle.bookrecords.proofs.Decodes.{decoded_spelt}
 use Rattle.bookrecords.proofs.Gives.{given_append}
-use Rattle.bookrecords.proofs.Unique.{Continues, continues, spelling_cons, spelling_none, same_front, same_records}
+use Rattle.bookrecords.proofs.Unique.{Continues, continues, same_front, same_records}
 use Rattle.bookfile.specs.declared.faults.Fault.{Fault}
-use Rattle.bookfile.specs.Faults.{Sound, Faulty, damaged, twice, gap, order, sized, Read, Acceptable}
+use Rattle.bookfile.specs.Faults.{Sound, Faulty, damaged, twice, gap, order, Read, Acceptable}
 
 -- ---- each way in which a file is faulty
 

@@ -4,7 +4,7 @@
 --     Entered xs at m r ys     m was entered at a place of xs, or refused by 18 where a figure stands there
 --     Enters xs s r ys         what a record says was entered into xs
 --     Filled file xs           xs holds the figures of all records of the file
-use Rattle.std.specs.Prelude.{◌≡◌, ℕ, zero, suc, ◌<◌, Bool, false, ◌||◌, List, [], ◌∷◌, length, replicate, Ok, Err, Result, ◌==◌, ◌≢◌, slice_index, slice_set}
+use Rattle.std.specs.Prelude.{◌≡◌, ℕ, zero, suc, Bool, false, ◌||◌, List, [], ◌∷◌, length, replicate, Ok, Err, Result, ◌==◌, ◌≢◌, slice_index, slice_set}
 use Rattle.std.specs.List.{AllByRecursion as All}
 use Rattle.codes.specs.declared.refusals.Refusal.{Refusal}
 use Rattle.codes.specs.Refusals.{notice}

@@ -17,7 +17,7 @@ use Rattle.laws.specs.Judged.{metres}
 use Rattle.codes.specs.declared.refusals.Refusal.{Refusal}
 use Rattle.bookrecords.specs.declared.records.Record.{Record}
 use Rattle.bookrecords.specs.Reading.{said, Placed, Fronts, told_record}
-use Rattle.bookrecords.specs.Records.{Said, states, remarks, word, content, spelt, Possible, Begins}
+use Rattle.bookrecords.specs.Records.{Said, states, remarks, content, spelt, Possible, Begins}
 use Rattle.bookrecords.specs.Decoding.{number_at, torn, known, emergency_said, service_said, remark_said, decoded}
 
 module _ (bytes : List ℕ) where

@@ -1,8 +1,8 @@
 -- Bytes spell one list of records at most. Assumes nothing.
-use Rattle.std.proofs.Common.{◌≡◌, ℕ, ◌+◌, ◌<◌, ◌≤◌, List, [], ◌∷◌, ◌++◌, length, sym, refl, ap, ◌∙◌, arith}
+use Rattle.std.proofs.Common.{◌≡◌, ℕ, ◌<◌, List, [], ◌∷◌, ◌++◌, length, sym, refl, ap, ◌∙◌, arith}
 use Rattle.std.specs.List.{AllByRecursion as All}
-use Rattle.std.proofs.lemmas.List.{append_assoc, append-nil, append_cancel_left, flat_map_more, length-append}
-use Rattle.codes.specs.Refusals.{Told, gives}
+use Rattle.std.proofs.lemmas.List.{append_assoc, append-nil, append_cancel_left, flat_map_more}
+use Rattle.codes.specs.Refusals.{gives}
 use Rattle.laws.specs.Books.{Emergencies, Services}
 use Rattle.laws.specs.Questions.{Question, Asks, figure}
 use Rattle.bookrecords.specs.Records.{Said, spelt, spelling, Possible}

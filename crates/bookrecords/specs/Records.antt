@@ -5,7 +5,7 @@
 --     spelling rs       the bytes of records one after the other
 --     Possible s        a record can say s
 --     Begins bytes s    the bytes begin with a record that says s
-use Rattle.std.specs.Prelude.{◌≡◌, ℕ, ◌+◌, ◌*◌, ◌/◌, ◌%◌, ◌<◌, List, [], ◌∷◌, ◌++◌, length, drop}
+use Rattle.std.specs.Prelude.{◌≡◌, ℕ, ◌+◌, ◌/◌, ◌%◌, ◌<◌, List, [], ◌∷◌, ◌++◌, length, drop}
 use Rattle.std.specs.List.{flat_map}
 use Rattle.codes.specs.Speeds.{kmh, byte}
 use Rattle.codes.specs.Gradients.{number}

@@ -2,7 +2,7 @@
 --     AtMost other row      no interval has a higher code in other than in row
 --     Highest .. row        row is lawful, and no lawful row has a higher code anywhere
 --     Breaks .. row j rule  interval j is the first to break a rule, and this is the first rule that it breaks
-use Rattle.std.specs.Prelude.{ℕ, suc, ◌<◌, ◌≤◌, List, [], ◌∷◌, slice_index_or}
+use Rattle.std.specs.Prelude.{ℕ, ◌<◌, ◌≤◌, List, slice_index_or}
 use Rattle.codes.specs.declared.speeds.Speed.{Speed}
 use Rattle.codes.specs.declared.speeds.Code.{Code}
 use Rattle.codes.specs.declared.speeds.Code.TheVariants.{Stop}

@@ -1,10 +1,8 @@
-use Rattle.std.proofs.Common.{◌≡◌, ℕ, List, Some, None, Ok, Err, Option, Result, sym, refl, ap, ◌∙◌, subst, arith}
-use Rattle.codes.specs.declared.refusals.Refusal.{Refusal}
+use Rattle.std.proofs.Common.{◌≡◌, ℕ, List, Some, None, Ok, Err, Option, sym, ◌∙◌, subst}
 use Rattle.codes.specs.Refusals.{notice}
 use Rattle.bookrecords.specs.declared.records.Record.{Record}
 use Rattle.bookrecords.specs.Reading.{said, Hands}
 use Rattle.bookfile.specs.Faults.{Faulty}
-use Rattle.bookfile.specs.Entering.{Enters}
 use Rattle.bookfile.proofs.Sofar.{Sofar, sofar_none, sofar_damaged, sofar_all, sofar_more, sofar_twice}
 use Rattle.bookfile.proofs.filling.fill.Goals as goal
 

@@ -1,4 +1,4 @@
-use Rattle.std.proofs.Common.{sym, ◌∙◌, subst}
+use Rattle.std.proofs.Common.{sym, subst}
 use Rattle.bookfile.specs.Faults.{Read}
 use Rattle.bookfile.proofs.Endings.{read_from_tabled}
 use Rattle.bookfile.proofs.reading.taken.Goals as goal

@@ -1,5 +1,4 @@
-use Rattle.std.proofs.Common.{◌≡◌, sym, refl}
-use Rattle.rules.specs.Limits.{At, Caps}
+use Rattle.std.proofs.Common.{sym, refl}
 use Rattle.rows.specs.Targets.{track_of, mark_of}
 use Rattle.rows.proofs.Beside.{beside_ground, before_ground}
 use Rattle.rows.proofs.passing.caps_at.Goals as goal

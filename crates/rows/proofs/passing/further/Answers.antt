@@ -1,4 +1,4 @@
-use Rattle.std.proofs.Common.{◌≡◌, refl}
+use Rattle.std.proofs.Common.{refl}
 use Rattle.rows.proofs.Beside.{stage_further}
 use Rattle.rows.proofs.passing.further.Goals as goal
 

@@ -1,4 +1,4 @@
-use Rattle.std.proofs.Common.{◌≡◌, ℕ, suc, ◌+◌, ◌<◌, ◌≤◌, length, get_or, sym, ap, ◌∙◌, arith}
+use Rattle.std.proofs.Common.{◌≡◌, ◌+◌, ◌<◌, length, sym, ap, ◌∙◌, arith}
 use Rattle.rules.specs.Tracks.{moved_on}
 use Rattle.rows.specs.Targets.{lengths_of}
 use Rattle.rows.proofs.Positions.{moved_none, moved_rises, length_at, end_here}

@@ -1,4 +1,3 @@
-use Rattle.std.proofs.Common.{◌≡◌}
 use Rattle.codes.specs.declared.speeds.Code.TheVariants.{Go}
 use Rattle.rows.specs.Targets.{track_of, mark_of}
 use Rattle.rows.proofs.Settles.{allowed_decided}

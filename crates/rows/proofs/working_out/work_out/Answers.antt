@@ -1,6 +1,5 @@
-use Rattle.std.proofs.Common.{◌≡◌, ℕ, List, [], sym, refl, ◌∙◌, subst}
-use Rattle.codes.specs.Refusals.{notice}
-use Rattle.rows.specs.WorkingOut.{Unworked, absent, slow, size, none, Asked}
+use Rattle.std.proofs.Common.{sym, refl, ◌∙◌, subst}
+use Rattle.rows.specs.WorkingOut.{Unworked, absent, slow, size, none}
 use Rattle.rows.proofs.working_out.work_out.Goals as goal
 
 pub returns-in-Err : goal.returns-in-Err
