@@ -11,7 +11,7 @@ use super::replayed::Replayed;
 use books::BrakingBook;
 use codes::{Class, Speed};
 use ground::Entry;
-use rows::Failure;
+use rows_drawn::Failure;
 use rules::{Interval, StopMark};
 use sheet::OpenSheet;
 use std::alloc::Global;

@@ -8,7 +8,7 @@
 use Rattle.std.specs.Prelude.{ℕ}
 use Rattle.trains.specs.Braking.{Numbers}
 use Rattle.driving.specs.Journeys.{Journey, stands}
-use Rattle.rows.specs.Targets.{mark_of}
+use Rattle.rows_drawn.specs.Targets.{mark_of}
 use Rattle.sheet.specs.declared.base.Base.{Base}
 use Rattle.sheet.specs.declared.open.OpenSheet.{OpenSheet}
 use Rattle.sheet.specs.declared.closed.ClosedSheet.{ClosedSheet}

@@ -15,11 +15,11 @@ returns-in_err-check_room c =
 
 pub returns-in_err-value : goal.returns-in_err-value
 returns-in_err-value c =
-    let none = no_speed_from_none c.args.kmh (sym c.from_kmh.ensures ∙ c.in_err-value.ensures.ok-part) in
+    let none = no_speed_from_none c.args.kmh (sym c.from_kmh.ensures ∙ c.in_err-value.ensures.ok_part) in
     search rules
 
 pub returns : goal.returns
 returns c =
-    let speed = speed_from_some c.args.kmh _ (sym c.from_kmh.ensures ∙ c.in_ok-value.ensures.ok-part) in
+    let speed = speed_from_some c.args.kmh _ (sym c.from_kmh.ensures ∙ c.in_ok-value.ensures.ok_part) in
     let answer : gives (c.args.count + 1) ≡ ruled (restriction_fault c.args.table.now c.args.count c.args.from c.args.to c.args.kmh) (c.args.count + 1) = search rules in
     record { answer = answer; after = cc; fit = restriction_fit c.args.table.now c.args.count _ _ _ (no_fault_from_gives _ _ _ answer).0 }
