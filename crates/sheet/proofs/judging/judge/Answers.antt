@@ -15,7 +15,7 @@ returns-in_err-target g c =
     (subst (Failed (drawing_of c.args.line.now) c.args.mark c.args.approach (g.B.BrakingBook.emergencies book) (g.B.BrakingBook.services book) c.args.row.now) (sym told.0) (absent told.1))
 
 pub invariant_of-result : goal.invariant_of-result
-invariant_of-result g c = (place_bounded (drawing_of c.args.line.now) c.args.mark _ 64 c.requires c.in_ok-target.ensures, tt)
+invariant_of-result g c = record { near = place_bounded (drawing_of c.args.line.now) c.args.mark _ 64 c.requires c.in_ok-target.ensures }
 
 pub returns : goal.returns
 returns g c =
