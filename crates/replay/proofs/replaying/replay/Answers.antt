@@ -17,9 +17,11 @@ returns-in_default g c =
 
 pub loop-call-init : goal.loop-call-init
 loop-call-init g c =
-    let made = c.in-Ok-with_capacity.ensures.made in
-    let all = ap length c.into_iter-call-iterator.ensures.into_iter-gives.0 in
-    (tt, tt, refl, omega arith, tt, rw made.0 sofar_none)
+    let none = c.in-Ok-with_capacity.ensures.items in
+    let room = c.in-Ok-with_capacity.ensures.capacity in
+    let short = c.in-Ok-with_capacity.ensures.len in
+    let all = ap length c.into_iter-call-iterator.ensures.into_iter_gives.0 in
+    (tt, tt, refl, omega arith, tt, rw none sofar_none)
 
 pub loop-call-preserved : goal.loop-call-preserved
 loop-call-preserved g c =
@@ -54,6 +56,6 @@ returns g c =
           (five_tables c.args.intervals.now c.args.gradients.now c.args.restrictions.now c.args.marks.now c.args.row_table.now)
           (five_tables c.loop-call.intervals c.loop-call.gradients c.loop-call.restrictions c.loop-call.marks c.loop-call.row_table)
           c.in-Ok.sheet (vec_items c.args.calls) c.loop-call.yielded (into_iter_items c.loop-call.call-iterator) (record { answers = c.loop-call.answers; sheet = c.loop-call.sheet })
-          blank.0 blank.1 (inv.2 ∙ c.into_iter-call-iterator.ensures.into_iter-gives.0) (sym none) inv.5;
+          blank.0 blank.1 (inv.2 ∙ c.into_iter-call-iterator.ensures.into_iter_gives.0) (sym none) inv.5;
       determined = determined (g.B.BrakingBook.emergencies book) (g.B.BrakingBook.services book);
     }
