@@ -12,7 +12,7 @@ spelling kind.Interval = codes "interval"
 spelling kind.Gradient = codes "gradient"
 spelling kind.Restriction = codes "restriction"
 spelling kind.Mark = codes "mark"
-spelling kind.WorkOut = codes "work_out"
+spelling kind.WorkOut = codes "work-out"
 spelling kind.Examine = codes "examine"
 
 abbrev pub kinds : List Kind
