@@ -1,6 +1,6 @@
 // The text of an answer.
 ghost use Rattle.std.specs.Prelude.{◌≡◌, IfOk, string_bytes};
-ghost use Rattle.wording.specs.Answers.{line-text, answer-text};
+ghost use Rattle.wording.specs.Answers.{line_text, answer_text};
 
 use super::answers::Answer;
 use super::refused::refusal_text;
@@ -9,7 +9,7 @@ use std::alloc::{AllocError, Global};
 
 // What is told of a line by its number.
 fn line_text(heap: Global, line: usize, told: &str) -> Result<String, AllocError>
-    ensures { IfOk result (λ text. string_bytes text ≡ line-text line told.now) }
+    ensures { IfOk result (λ text. string_bytes text ≡ line_text line told.now) }
 {
     format!(in heap; "line {line}: {told}")
 }
@@ -17,7 +17,7 @@ fn line_text(heap: Global, line: usize, told: &str) -> Result<String, AllocError
 // The text of an answer, without a line feed; the row is the one that was worked out, if the answer is of one. Where memory fails,
 // there is no text.
 pub fn answer_text(heap: Global, answer: Answer, row: &[u8]) -> Result<String, AllocError>
-    ensures { IfOk result (λ text. string_bytes text ≡ answer-text answer row.now) }
+    ensures { IfOk result (λ text. string_bytes text ≡ answer_text answer row.now) }
 {
     match answer {
         Answer::Entered => String::from_str(heap, "ok"),
