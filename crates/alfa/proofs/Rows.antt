@@ -1,7 +1,7 @@
 -- The stop ground, the highest row and the first break that are worked out are those of the rules. Assumes nothing.
 use Rattle.std.proofs.Common.{◌≡◌, ℕ, zero, suc, ◌+◌, ◌<◌, ◌≤◌, Bool, true, false, cond, ◌&&◌, eqb, List, [], ◌∷◌, length, get_or, Some, None, Decides, Option, sym, refl, subst, true≢false, arith}
 use native.Mathlib.Decide.{dec_le, ℕ_discrete}
-use Rattle.std.specs.List.{ContainsAt as Has, AllByRecursion as All}
+use Rattle.std.specs.List.{ContainsAt, AllByRecursion}
 use Rattle.std.proofs.ByRecursion.{All-weaker, all_has_itself}
 use Rattle.std.proofs.lemmas.Bool.{not-true, not-false}
 use Rattle.std.proofs.lemmas.Bool.Decides.{Decides-and, Decides-eqb, not_from_Decides}
@@ -20,8 +20,8 @@ use Rattle.alfa.proofs.Searches.{FirstPassing, below_top, below_from_kmh, highes
 use Rattle.alfa.proofs.Tests.{allows, fits, decides_fits, decides_obeys, decides_allows}
 use Rattle.alfa.proofs.Solving.{code_from, no_speed, looked_at, stops, ground_back, ground_begin, highest_code, row_back, highest_row, fails, break_from, first_break}
 
-all_each : {X : Type 0} (P : X → Type 0) → ((x : X) → P x) → (xs : List X) → All P xs
-all_each P each xs = All-weaker (Has xs) P (λ x has. each x) xs (all_has_itself xs)
+all_each : {X : Type 0} (P : X → Type 0) → ((x : X) → P x) → (xs : List X) → AllByRecursion P xs
+all_each P each xs = All-weaker (ContainsAt xs) P (λ x has. each x) xs (all_has_itself xs)
 
 module _ (track : Track) (mark : Mark) (E : Emergencies) (D : Services) where
   -- ---- the stop ground

@@ -2,7 +2,7 @@
 use Rattle.std.proofs.Common.{◌≡◌, ℕ, ◌-◌, Bool, true, false, cond, ltb, List, [], ◌∷◌, map, length, get_or, ℤ, pos, ◌≤ℤ◌, Some, None, Decides, fold, Option, sym, refl, subst, true≢false, arith, ltb-false, ltb-true}
 use mathlib.Core.Path.{fun_ext}
 use lib.Signed.{le_z}
-use Rattle.std.specs.List.{AllByRecursion as All}
+use Rattle.std.specs.List.{AllByRecursion}
 use Rattle.std.proofs.lemmas.Int.{ints}
 use Rattle.codes.specs.declared.speeds.Speed.{Speed}
 use Rattle.codes.specs.declared.speeds.Code.{Code}
@@ -128,7 +128,7 @@ solved x = subst (λ reckon. Holds (solve reckon x)) same_classes (solved_by_met
 
 -- ---- the table
 
-all_solved : (xs : List Example) → All Holds (map (solve by_changes) xs)
+all_solved : (xs : List Example) → AllByRecursion Holds (map (solve by_changes) xs)
 all_solved [] = tt
 all_solved (x ∷ xs) = (solved x, all_solved xs)
 
@@ -136,5 +136,5 @@ table_solved : map (solve by_changes) table ≡ table
 unfolding moved_on values_at worst_of metre_value beside
 table_solved = refl
 
-pub table_holds : All Holds table
-table_holds = subst (All Holds) table_solved (all_solved table)
+pub table_holds : AllByRecursion Holds table
+table_holds = subst (AllByRecursion Holds) table_solved (all_solved table)

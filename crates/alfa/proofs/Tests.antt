@@ -1,6 +1,6 @@
 -- Tests that compute the rules, each with the rule that it decides. Assumes nothing.
 use Rattle.std.proofs.Common.{ℕ, suc, ◌+◌, ◌-◌, ◌≤◌, Bool, true, false, ◌&&◌, ◌||◌, ltb, leb, List, [], ◌∷◌, Decides, sym, refl, true≢false, arith, le-leb, leb-true}
-use Rattle.std.specs.List.{AllByRecursion as All}
+use Rattle.std.specs.List.{AllByRecursion}
 use Rattle.std.proofs.lemmas.Bool.Decides.{Decides-like, Decides-and, Decides-or, Decides-ltb}
 use Rattle.std.proofs.ByRecursion.{Decides-by_and}
 use Rattle.codes.specs.declared.speeds.Speed.{Speed}
@@ -31,7 +31,7 @@ abbrev pub every : {X : Type 0} → (X → Bool) → List X → Bool
 every test [] = true
 every test (x ∷ xs) = test x && every test xs
 
-decides_every : {X : Type 0} (test : X → Bool) (P : X → Type 0) → ((x : X) → Decides (test x) (P x)) → (xs : List X) → Decides (every test xs) (All P xs)
+decides_every : {X : Type 0} (test : X → Bool) (P : X → Type 0) → ((x : X) → Decides (test x) (P x)) → (xs : List X) → Decides (every test xs) (AllByRecursion P xs)
 decides_every test P each = Decides-by_and test P (every test) each refl (λ x xs. refl)
 
 -- ---- braking

@@ -1,6 +1,6 @@
 // The table of examples: questions about the sheet and about faldtal, each with what the rules say.
 ghost use Rattle.std.specs.Prelude.{◌≡◌};
-ghost use Rattle.std.specs.List.{AllByRecursion as All};
+ghost use Rattle.std.specs.List.{AllByRecursion};
 ghost use Rattle.alfa.specs.Examples.{Holds};
 ghost use Rattle.alfa.specs.Table.{table};
 
@@ -88,7 +88,7 @@ fn written() -> [Example; 20]
 // The table. What each line says is what the five rules say of it, by the published book; so was it worked out by hand.
 pub fn examples() -> [Example; 20]
     ensures lines { result ≡ table }
-    ensures holds { All Holds result }
+    ensures holds { AllByRecursion Holds result }
 {
     written()
 }

@@ -1,7 +1,7 @@
 -- The table that holds the figures of records. Assumes nothing.
 use Rattle.std.proofs.Common.{◌≡◌, ℕ, zero, suc, ◌<◌, ◌≤◌, List, [], ◌∷◌, ◌++◌, length, get_or, set, replicate, sym, refl, ap, ◌∙◌, inl, inr, arith, eqb-true}
 use borrow.Author.Tests.{eqb-false}
-use Rattle.std.specs.List.{AllByRecursion as All}
+use Rattle.std.specs.List.{AllByRecursion}
 use Rattle.std.proofs.lemmas.List.{get_or-replicate, get_or-set_same, get_or-set_other}
 use Rattle.std.proofs.lemmas.Bool.{cases_Bool}
 use Rattle.laws.specs.Books.{Metres}
@@ -26,7 +26,7 @@ unfolding given
 holds_none q asks = sym (ap entry (get_or-replicate 594 (place q) 0 0 (place_within q asks)))
 
 module _ (xs : List ℕ) (rs : List Said) (holds : Holds xs rs) where
-  pub sound_from_holds : All Possible rs → Sound rs
+  pub sound_from_holds : AllByRecursion Possible rs → Sound rs
   sound_from_holds possible = record {
     possible = possible;
     single = λ q asks. let e = ap length (holds q asks) in let s = entry_short (get_or xs (place q) 0) in omega arith;

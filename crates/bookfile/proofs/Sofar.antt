@@ -1,6 +1,6 @@
 -- What is known of a file and a table while its records are entered. Assumes nothing.
 use Rattle.std.proofs.Common.{◌≡◌, ℕ, ◌+◌, ◌<◌, ◌≤◌, List, [], ◌∷◌, ◌++◌, length, get_or, drop, replicate, Ok, Err, sym, refl, ap, ◌∙◌, subst, arith}
-use Rattle.std.specs.List.{AllByRecursion as All}
+use Rattle.std.specs.List.{AllByRecursion}
 use Rattle.std.proofs.ByRecursion.{All-push}
 use Rattle.std.proofs.lemmas.List.{append-nil, append_assoc, length-append, length-set, length-drop, length-replicate, drop-drop, drop_all}
 use Rattle.codes.specs.declared.refusals.Refusal.{Refusal}
@@ -17,7 +17,7 @@ use Rattle.bookfile.proofs.Entries.{holds_none, holds_remark, holds_more, sound_
 -- the records before place p were entered into the table xs
 pub record Sofar (file : List ℕ) (p : ℕ) (xs : List ℕ) : Type 0 where
   pub records : List Said
-  pub possible : All Possible records
+  pub possible : AllByRecursion Possible records
   pub spelt : file ≡ spelling records ++ drop p file
   pub stands : p ≡ length (spelling records)
   pub holds : Holds xs records

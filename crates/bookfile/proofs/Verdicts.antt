@@ -1,6 +1,6 @@
 -- A faulty file is not that of any book. Assumes nothing.
 use Rattle.std.proofs.Common.{◌≡◌, ℕ, ◌<◌, List, [], ◌∷◌, ◌++◌, length, is_ok, Ok, Err, Decides, Result, sym, refl, ap, ◌∙◌, arith, eq-eqb}
-use Rattle.std.specs.List.{AllByRecursion as All}
+use Rattle.std.specs.List.{AllByRecursion}
 use Rattle.std.proofs.lemmas.List.{length-append}
 use Rattle.std.proofs.lemmas.Bool.{cond-true}
 use Rattle.codes.specs.Refusals.{gives, refuses}
@@ -19,7 +19,7 @@ use Rattle.bookfile.specs.Faults.{Sound, Faulty, damaged, twice, gap, order, Rea
 -- ---- each way in which a file is faulty
 
 -- bytes that are refused are no records
-refused_not_spelt : (rest : List ℕ) (why : ℕ × List ℕ) → 0 < length rest → decoded rest ≡ refuses why → (further : List Said) → All Possible further → rest ≡ spelling further → ⊥
+refused_not_spelt : (rest : List ℕ) (why : ℕ × List ℕ) → 0 < length rest → decoded rest ≡ refuses why → (further : List Said) → AllByRecursion Possible further → rest ≡ spelling further → ⊥
 unfolding spelling
 refused_not_spelt rest why more e [] p spelt = let none = ap length spelt in omega arith
 refused_not_spelt rest why more e (s ∷ further) p spelt =
@@ -35,7 +35,7 @@ module _ (file : List ℕ) (E : Emergencies) (D : Services) (means : Means file 
   further : (rs : List Said) (rest : List ℕ) → Sound rs → file ≡ spelling rs ++ rest → Continues rs rest means.records
   further rs rest sound e = continues rs rest means.records sound.possible means.possible (sym e ∙ means.spelt)
 
-  twice_given : (rs : List Said) (q : Question) (m : ℕ) (rest : List ℕ) (more : List Said) → Possible (states q m) → All Possible more → 0 < length (given q rs) → means.records ≡ rs ++ more → spelt (states q m) ++ rest ≡ spelling more → ⊥
+  twice_given : (rs : List Said) (q : Question) (m : ℕ) (rest : List ℕ) (more : List Said) → Possible (states q m) → AllByRecursion Possible more → 0 < length (given q rs) → means.records ≡ rs ++ more → spelt (states q m) ++ rest ≡ spelling more → ⊥
   unfolding spelling
   twice_given rs q m rest [] p ps some joined e = let none = ap length e in omega arith
   twice_given rs q m rest (s ∷ more) p ps some joined e =

@@ -5,7 +5,7 @@
 --     Enters xs s r ys         what a record says was entered into xs
 --     Filled file xs           xs holds the figures of all records of the file
 use Rattle.std.specs.Prelude.{◌≡◌, ℕ, zero, suc, Bool, false, ◌||◌, List, [], ◌∷◌, length, replicate, Ok, Err, Result, ◌==◌, ◌≢◌, slice_index, slice_set}
-use Rattle.std.specs.List.{AllByRecursion as All}
+use Rattle.std.specs.List.{AllByRecursion}
 use Rattle.codes.specs.declared.refusals.Refusal.{Refusal}
 use Rattle.codes.specs.Refusals.{notice}
 use Rattle.laws.specs.Questions.{Question, Asks, place}
@@ -36,7 +36,7 @@ Enters xs (remarks bytes) r ys = Passed xs r ys
 pub record Filled (file xs : List ℕ) : Type 0 where
   pub records : List Said
   pub spelt : file ≡ spelling records
-  pub possible : All Possible records
+  pub possible : AllByRecursion Possible records
   pub holds : Holds xs records
 
 -- all records were entered, or the first fault was found

@@ -4,7 +4,7 @@
 --     Acceptable file table    the sizes are right, and the file is that of some book
 --     Read file before r after    reading the file into the table before answered r and left the table after
 use Rattle.std.specs.Prelude.{◌≡◌, ℕ, ◌<◌, ◌≤◌, Bool, true, false, ◌&&◌, List, [], ◌∷◌, ◌++◌, length, replicate, Ok, Err, Result, ◌==◌, nat_le}
-use Rattle.std.specs.List.{AllByRecursion as All}
+use Rattle.std.specs.List.{AllByRecursion}
 use Rattle.codes.specs.Refusals.{refuses, notice}
 use Rattle.laws.specs.Books.{Emergencies, Services, Laws}
 use Rattle.laws.specs.Questions.{Question, Asks, figure, emergency_of, service_of}
@@ -14,7 +14,7 @@ use Rattle.bookfile.specs.declared.faults.Fault.{Fault}
 use Rattle.bookrecords.specs.Files.{given, Means}
 
 pub record Sound (rs : List Said) : Type 0 where
-  pub possible : All Possible rs
+  pub possible : AllByRecursion Possible rs
   pub single : (q : Question) → Asks q → length (given q rs) ≤ 1
 
 -- The file begins with sound records rs. Behind them stands a record that is torn (15), of a wrong kind (16) or impossible (17), or

@@ -4,7 +4,7 @@
 --     Reordered file file'    file' has the figures of file in any order, and any remarks
 use Rattle.std.specs.Prelude.{◌≡◌, ℕ, ◌≤◌, List, [], ◌∷◌, length, Ok, Err, Result}
 use Rattle.std.specs.List.Sorted.{IsPermutation}
-use Rattle.std.specs.List.{AllByRecursion as All}
+use Rattle.std.specs.List.{AllByRecursion}
 use Rattle.laws.specs.Questions.{Question, emergency_of, service_of}
 use Rattle.bookrecords.specs.Records.{Said, states, remarks, spelling, Possible}
 use Rattle.bookfile.specs.declared.faults.Fault.{Fault}
@@ -20,8 +20,8 @@ pub record Reordered (file file' : List ℕ) : Type 0 where
   pub records' : List Said
   pub spelt : file ≡ spelling records
   pub spelt' : file' ≡ spelling records'
-  pub possible : All Possible records
-  pub possible' : All Possible records'
+  pub possible : AllByRecursion Possible records
+  pub possible' : AllByRecursion Possible records'
   pub shuffled : IsPermutation (figures records) (figures records')
 
 -- an accepted file's book is also that of each file, of at most 32,768 bytes, that is the same but for order and remarks

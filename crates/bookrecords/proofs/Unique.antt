@@ -1,6 +1,6 @@
 -- Bytes spell one list of records at most. Assumes nothing.
 use Rattle.std.proofs.Common.{◌≡◌, ℕ, ◌<◌, List, [], ◌∷◌, ◌++◌, length, sym, refl, ap, ◌∙◌, arith}
-use Rattle.std.specs.List.{AllByRecursion as All}
+use Rattle.std.specs.List.{AllByRecursion}
 use Rattle.std.proofs.lemmas.List.{append_assoc, append-nil, append_cancel_left, flat_map_more}
 use Rattle.codes.specs.Refusals.{gives}
 use Rattle.laws.specs.Books.{Emergencies, Services}
@@ -35,9 +35,9 @@ pub record Continues (rs : List Said) (rest : List ℕ) (all : List Said) : Type
   pub further : List Said
   pub joined : all ≡ rs ++ further
   pub spelt : rest ≡ spelling further
-  pub possible : All Possible further
+  pub possible : AllByRecursion Possible further
 
-pub continues : (rs : List Said) (rest : List ℕ) (all : List Said) → All Possible rs → All Possible all → spelling rs ++ rest ≡ spelling all → Continues rs rest all
+pub continues : (rs : List Said) (rest : List ℕ) (all : List Said) → AllByRecursion Possible rs → AllByRecursion Possible all → spelling rs ++ rest ≡ spelling all → Continues rs rest all
 unfolding spelling
 continues [] rest all p q e = record { further = all; joined = refl; spelt = e; possible = q }
 continues (r ∷ rs) rest [] p q e = absurd (let some = spelt_some r (spelling rs ++ rest) in let none = ap length (sym (append_assoc (spelt r) (spelling rs) rest) ∙ e) in omega arith)
@@ -53,7 +53,7 @@ unfolding spelling
 spelling_none [] e = refl
 spelling_none (r ∷ rs) e = absurd (let some = spelt_some r (spelling rs) in let none = ap length e in omega arith)
 
-pub same_records : (rs ss : List Said) → All Possible rs → All Possible ss → spelling rs ≡ spelling ss → ss ≡ rs
+pub same_records : (rs ss : List Said) → AllByRecursion Possible rs → AllByRecursion Possible ss → spelling rs ≡ spelling ss → ss ≡ rs
 same_records rs ss p q e =
     let more = continues rs [] ss p q (append-nil (spelling rs) ∙ e) in
     more.joined ∙ ap (λ xs. rs ++ xs) (spelling_none more.further more.spelt) ∙ append-nil rs

@@ -3,7 +3,7 @@
 --     given q rs          the figures that the records rs state for question q, in their order
 --     Means file E D      the file is a book's, and the book is E and D
 use Rattle.std.specs.Prelude.{◌≡◌, ℕ, ◌≤◌, Bool, cond, List, [], ◌∷◌, length, ◌==◌}
-use Rattle.std.specs.List.{AllByRecursion as All}
+use Rattle.std.specs.List.{AllByRecursion}
 use Rattle.laws.specs.Books.{Emergencies, Services, Laws}
 use Rattle.laws.specs.Questions.{Question, Asks, figure, place}
 use Rattle.bookrecords.specs.Records.{Said, states, remarks, spelling, Possible}
@@ -23,6 +23,6 @@ pub record Means (file : List ℕ) (E : Emergencies) (D : Services) : Type 0 whe
   pub short : length file ≤ 32768
   pub records : List Said
   pub spelt : file ≡ spelling records
-  pub possible : All Possible records
+  pub possible : AllByRecursion Possible records
   pub once : (q : Question) → Asks q → given q records ≡ figure E D q ∷ []
   pub laws : Laws E D

@@ -1,6 +1,6 @@
 -- The file of a book means that book. Assumes nothing.
 use Rattle.std.proofs.Common.{◌≡◌, ℕ, zero, suc, ◌+◌, ◌<◌, ◌≤◌, List, [], ◌∷◌, map, length, get_or, refl, ap, ◌∙◌, arith, eq-eqb, ne_eqb}
-use Rattle.std.specs.List.{flat_map, AllByRecursion as All}
+use Rattle.std.specs.List.{flat_map, AllByRecursion}
 use Rattle.std.proofs.ByRecursion.{All-map, All-from_get_or}
 use Rattle.std.proofs.lemmas.Bool.{cond-true, cond-false}
 use Rattle.codes.specs.declared.speeds.Speed.TheVariants.{V30}
@@ -68,7 +68,7 @@ module _ (E : Emergencies) (D : Services) where
     figure_metres (emergency k from to) asks = distances.emergency k from to asks
     figure_metres (service k from) asks = distances.service k from
 
-    stated_possible : All Possible (map (stated E D) questions)
+    stated_possible : AllByRecursion Possible (map (stated E D) questions)
     stated_possible =
         All-map Possible (stated E D) questions
         (All-from_get_or (λ q. Possible (stated E D q)) questions (service C1 V30) (λ i l.

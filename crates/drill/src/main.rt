@@ -3,14 +3,14 @@
 #![tactic(auto)]
 
 mod drawing;
-mod driving;
+mod rides;
 
 use anyhow::anyhow;
 use books::PublishedBook;
 use codes::{Class, Refusal, Speed};
 use drawing::closed_sheet;
-use driving::{drive, passed_sheet};
 use ground::Entry;
+use rides::{drive, passed_sheet};
 use rules::{Interval, StopMark};
 use sheet::LentTables;
 use trains::LateTrain;

@@ -1,7 +1,7 @@
 -- The rules for a code by itself and the stop ground can be decided, and every pace has a lowest speed not below it. Assumes nothing.
 use Rattle.std.proofs.Common.{◌≡◌, ℕ, ◌+◌, ◌-◌, ◌<◌, ◌≤◌, ◌⊎◌, List, [], ◌∷◌, refl, ap, inl, inr, arith}
 use native.Mathlib.Decide.{map_dec, dec_le, dec_lt, ℕ_discrete}
-use Rattle.std.specs.List.{AllByRecursion as All}
+use Rattle.std.specs.List.{AllByRecursion}
 use Rattle.std.proofs.ByRecursion.{All-weaker}
 use Rattle.codes.specs.declared.speeds.Speed.{Speed}
 use Rattle.codes.specs.declared.speeds.Speed.TheVariants.{V30, V40, V50, V60, V70, V80, V90, V100, V120}
@@ -31,7 +31,7 @@ dec-× (yes a) (yes c) = yes (a, c)
 dec-× (yes a) (no n) = no (λ p. n p.1)
 dec-× (no n) d = no (λ p. n p.0)
 
-dec_all : {X : Type 0} (P : X → Type 0) → ((x : X) → Dec (P x)) → (xs : List X) → Dec (All P xs)
+dec_all : {X : Type 0} (P : X → Type 0) → ((x : X) → Dec (P x)) → (xs : List X) → Dec (AllByRecursion P xs)
 dec_all P d [] = yes tt
 dec_all P d (x ∷ xs) = dec-× (d x) (dec_all P d xs)
 
@@ -44,7 +44,7 @@ same_byte c d e = grind arith
 pub same_code : (c d : Code) → Dec (c ≡ d)
 same_code c d = map_dec (same_byte c d) (ap byte) (ℕ_discrete (byte c) (byte d))
 
-each_speed : (P : Speed → Type 0) → All P speeds → (v : Speed) → P v
+each_speed : (P : Speed → Type 0) → AllByRecursion P speeds → (v : Speed) → P v
 each_speed P all V30 = all.0
 each_speed P all V40 = all.1.0
 each_speed P all V50 = all.1.1.0
@@ -56,7 +56,7 @@ each_speed P all V100 = all.1.1.1.1.1.1.1.0
 each_speed P all V120 = all.1.1.1.1.1.1.1.1.0
 
 -- the lowest of 120 km/h and the speeds of a list that is not below a pace
-lowest_in : (pace : ℕ) → pace ≤ 120 → (vs : List Speed) → (v : Speed) × (pace ≤ kmh v) × All (λ u. pace ≤ kmh u → kmh v ≤ kmh u) vs
+lowest_in : (pace : ℕ) → pace ≤ 120 → (vs : List Speed) → (v : Speed) × (pace ≤ kmh v) × AllByRecursion (λ u. pace ≤ kmh u → kmh v ≤ kmh u) vs
 lowest_in pace most [] = (V120, most, tt)
 lowest_in pace most (u ∷ us) =
     let rest = lowest_in pace most us in
@@ -74,7 +74,7 @@ lowest_speed pace moves most =
     let found = lowest_in pace most speeds in
     (found.0, record { reaches = found.1; lowest = least found.0 found.2 })
   where
-    least : (v : Speed) → All (λ u. pace ≤ kmh u → kmh v ≤ kmh u) speeds → (c : Code) → pace ≤ byte c → kmh v ≤ byte c
+    least : (v : Speed) → AllByRecursion (λ u. pace ≤ kmh u → kmh v ≤ kmh u) speeds → (c : Code) → pace ≤ byte c → kmh v ≤ byte c
     least v all Stop reaches = absurd (omega arith)
     least v all (Go u) reaches = each_speed (λ u. pace ≤ kmh u → kmh v ≤ kmh u) all u reaches
 
@@ -106,16 +106,16 @@ module _ (track : Track) (mark : Mark) (E : Emergencies) (D : Services) where
   pub dec_stops : (j : ℕ) → Dec (Stops track mark E D j)
   dec_stops j = map_dec stops fails (dec_all _ (λ v. dec-→ (dec_fits j (Go v)) (no (λ z. z))) speeds)
     where
-      stops : All (λ v. Fits track mark E D j (Go v) → ⊥) speeds → Stops track mark E D j
+      stops : AllByRecursion (λ v. Fits track mark E D j (Go v) → ⊥) speeds → Stops track mark E D j
       stops none Stop fits = refl
       stops none (Go v) fits = absurd (each_speed (λ v. Fits track mark E D j (Go v) → ⊥) none v fits)
 
-      fails : Stops track mark E D j → All (λ v. Fits track mark E D j (Go v) → ⊥) speeds
+      fails : Stops track mark E D j → AllByRecursion (λ v. Fits track mark E D j (Go v) → ⊥) speeds
       fails only = every speeds
         where
           never : (v : Speed) → Fits track mark E D j (Go v) → ⊥
           never v fits = let stop = only (Go v) fits in let z : ◌≡◌ {A = ℕ} 0 1 = cc in omega arith
 
-          every : (vs : List Speed) → All (λ v. Fits track mark E D j (Go v) → ⊥) vs
+          every : (vs : List Speed) → AllByRecursion (λ v. Fits track mark E D j (Go v) → ⊥) vs
           every [] = tt
           every (v ∷ vs) = (never v, every vs)

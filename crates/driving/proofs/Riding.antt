@@ -31,7 +31,7 @@ module _ (E : Emergencies) (D : Services) (distances : Distances E D) (laws : La
 
   -- where a train that came with no more than code c is down to a lower one by the book, it is by its promise
   kept : (old : ℕ) (n : Numbers) (c to : Code) (metres : ℕ) → Promise E old n → n.carried ≤ byte c → n.rolled ≡ min metres 4095
-      → n.pace ≤ max n.carried (byte n.heard) → byte n.heard ≤ byte to → Down E n.ground c to metres → n.pace ≤ byte to
+      → n.pace ≤ max n.carried (byte n.heard) → byte n.heard ≤ byte to → Down E n.gradient c to metres → n.pace ≤ byte to
   kept old n Stop to metres promise carried rolled steady above down = omega arith
   kept old n (Go v) to metres promise carried rolled steady above (inl low) = omega arith
   kept old n (Go v) to metres promise carried rolled steady above (inr fits) =
@@ -43,7 +43,7 @@ module _ (E : Emergencies) (D : Services) (distances : Distances E D) (laws : La
             let u = low.0 in
             let lower : byte to < kmh u = omega (arith, low.1.reaches) in
             let up_to : kmh u ≤ kmh v = low.1.lowest (Go v) carried in
-            promise.braked u to low.1 above lower (omega (arith, laws.higher_from n.ground u v to lower up_to, (distances.emergency n.ground u to lower).1))
+            promise.braked u to low.1 above lower (omega (arith, laws.higher_from n.gradient u v to lower up_to, (distances.emergency n.gradient u to lower).1))
       ]
 
   module _ (track : Track) (mark : Mark) (code : ℕ → Code) where
@@ -52,7 +52,7 @@ module _ (E : Emergencies) (D : Services) (distances : Distances E D) (laws : La
     pub record Riding (k x : ℕ) (n : Numbers) : Type 0 where
       pub heard : n.heard ≡ code (suc k)
       pub rolled : n.rolled ≡ min (x - end_of track k) 4095
-      pub ground : n.ground ≡ class_from track mark E D k x
+      pub ground : n.gradient ≡ class_from track mark E D k x
       pub carried : n.carried ≤ byte (code k)
       pub steady : n.pace ≤ max n.carried (byte n.heard)
       pub braked : (p : ℕ) (to : Code) → end_of track k ≤ p → p ≤ x → byte (code (suc k)) ≤ byte to
@@ -62,7 +62,7 @@ module _ (E : Emergencies) (D : Services) (distances : Distances E D) (laws : La
     riding_heard k x m n at slow hears = record {
       heard = hears.heard;
       rolled = omega (arith, hears.rolled);
-      ground = subst (λ p. n.ground ≡ class_over track (p - train_length) x) (sym at) hears.ground;
+      ground = subst (λ p. n.gradient ≡ class_over track (p - train_length) x) (sym at) hears.gradient;
       carried = omega (arith, hears.carried);
       steady = omega (arith, hears.carried, hears.promise.steady);
       braked = λ p to low high above down.
@@ -87,9 +87,9 @@ module _ (E : Emergencies) (D : Services) (distances : Distances E D) (laws : La
         rolled : n.rolled ≡ min (x + 1 - end_of track k) 4095
         rolled = omega (arith, rolls.rolled, was.rolled)
 
-        ground : n.ground ≡ class_from track mark E D k (x + 1)
+        ground : n.gradient ≡ class_from track mark E D k (x + 1)
         ground =
-            rolls.ground ∙ ap (λ class. steepness.worse class (class_at track x)) was.ground
+            rolls.gradient ∙ ap (λ class. steepness.worse class (class_at track x)) was.ground
             ∙ sym ((stretches steepness_lawful track.gradients).more (end_of track k - train_length) x (omega arith))
 
         carried : n.carried ≤ byte (code k)

@@ -5,7 +5,7 @@
 use Rattle.std.proofs.Common.{◌≡◌, ℕ, zero, suc, ◌+◌, ◌-◌, ◌<◌, ◌≤◌, true, false, List, sym, ap, ◌∙◌, subst, inl, inr, zero-le, arith}
 use native.Mathlib.Decide.{dec_le, dec_lt, ℕ_discrete}
 use borrow.Author.Tests.{both_ways}
-use Rattle.std.specs.List.{ContainsAt as Has}
+use Rattle.std.specs.List.{ContainsAt}
 use Rattle.std.proofs.ByRecursion.{All-weaker, all-has, all_has_itself}
 use Rattle.std.proofs.lemmas.Bool.Decides.{nat_tests}
 use Rattle.codes.specs.declared.speeds.Speed.{Speed}
@@ -132,7 +132,7 @@ module _ (track : Track) (mark : Mark) (drawn : Drawn track mark) (E : Emergenci
         ]
 
     -- the train keeps to a restriction that binds its head
-    keeps_slow : (journey : Journey) → Way journey → (x : Entry Speed) → Has track.restrictions x → Binds x journey.position → journey.train.pace ≤ kmh x.value
+    keeps_slow : (journey : Journey) → Way journey → (x : Entry Speed) → ContainsAt track.restrictions x → Binds x journey.position → journey.train.pace ≤ kmh x.value
     keeps_slow journey way x is (low, high) =
         elim (dec_lt x.from mark.danger) [
           | yes ahead ↦ let from = binds ahead in way.riding.braked from.0 (Go x.value) from.1 from.2 (here ahead) from.3
@@ -189,7 +189,7 @@ module _ (track : Track) (mark : Mark) (drawn : Drawn track mark) (E : Emergenci
     way_safe : (journey : Journey) → Way journey → Safe track mark journey
     way_safe journey way = record {
       short = way.place.short;
-      slow = All-weaker (Has track.restrictions) (λ x. Binds x journey.position → journey.train.pace ≤ kmh x.value)
+      slow = All-weaker (ContainsAt track.restrictions) (λ x. Binds x journey.position → journey.train.pace ≤ kmh x.value)
           (keeps_slow journey way) track.restrictions (all_has_itself track.restrictions);
     }
 

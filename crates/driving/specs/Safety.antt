@@ -5,7 +5,7 @@
 --     Run .. train journey    the train has set off, and came to this journey step by step
 --     RunsAreSafe           a train that sets off at no more than the approach code over a lawful row is safe at any time
 use Rattle.std.specs.Prelude.{◌≡◌, ℕ, ◌+◌, ◌<◌, ◌≤◌, false, List}
-use Rattle.std.specs.List.{AllByRecursion as All}
+use Rattle.std.specs.List.{AllByRecursion}
 use Rattle.codes.specs.declared.speeds.Speed.{Speed}
 use Rattle.codes.specs.declared.speeds.Code.{Code}
 use Rattle.codes.specs.Speeds.{kmh}
@@ -18,7 +18,7 @@ use Rattle.driving.specs.Journeys.{Journey, stands, last_position, SetsOff, Move
 
 pub record Drawn (track : Track) (mark : Mark) : Type 0 where
   pub start_least : 1000 ≤ track.start
-  pub lengths : All (λ metres. 1 ≤ metres) track.lengths
+  pub lengths : AllByRecursion (λ metres. 1 ≤ metres) track.lengths
   pub stands : Stands track mark
   pub danger_least : mark.position ≤ mark.danger
   pub danger_most : mark.danger < last_position
@@ -29,7 +29,7 @@ Binds x p = (x.from ≤ p) × (p < x.to + train_length)
 
 pub record Safe (track : Track) (mark : Mark) (journey : Journey) : Type 0 where
   pub short : journey.position ≤ mark.danger
-  pub slow : All (λ x. Binds x journey.position → journey.train.pace ≤ kmh x.value) track.restrictions
+  pub slow : AllByRecursion (λ x. Binds x journey.position → journey.train.pace ≤ kmh x.value) track.restrictions
 
 module _ (track : Track) (mark : Mark) (E : Emergencies) (row : List Code) where
   pub data Run (train : Numbers) : Journey → Type 0 where

@@ -1,6 +1,6 @@
 -- Values that are as bad as others: as both of two, as all of a list. Assumes nothing.
 use Rattle.std.proofs.Common.{◌≡◌, Bool, true, false, cond, ◌↔◌, List, [], ◌∷◌, Decides, fold, sym, refl, ap, ◌∙◌, ⊎_elim}
-use Rattle.std.specs.List.{AllByRecursion as All}
+use Rattle.std.specs.List.{AllByRecursion}
 use Rattle.std.proofs.lemmas.Bool.{false≢true}
 use Rattle.ground.specs.Grading.{Grading, Lawful, AsBad}
 use Rattle.ground.specs.Ground.{worst_of}
@@ -32,7 +32,7 @@ module _ {V : Type 0} {g : Grading V} (laws : Lawful g) where
   cond_bound z v w false P d = (λ h. (h, λ p. absurd (false≢true (d.1 p))), λ h. h.0)
 
   -- ---- a list of values
-  folded_bound : (z v : V) (values : List V) → AsBad g z (fold g.worse v values) ↔ (AsBad g z v × All (AsBad g z) values)
+  folded_bound : (z v : V) (values : List V) → AsBad g z (fold g.worse v values) ↔ (AsBad g z v × AllByRecursion (AsBad g z) values)
   folded_bound z v [] = (λ h. (h, tt), λ h. h.0)
   folded_bound z v (w ∷ values) =
       let rest = folded_bound z (g.worse v w) values in
@@ -42,7 +42,7 @@ module _ {V : Type 0} {g : Grading V} (laws : Lawful g) where
       )
 
   -- the worst of some values; of none, it is that of undrawn ground
-  pub worst_bound : (z : V) (values : List V) → AsBad g z (worst_of g values) ↔ (All (AsBad g z) values × (All (λ v. ⊥) values → AsBad g z g.undrawn))
+  pub worst_bound : (z : V) (values : List V) → AsBad g z (worst_of g values) ↔ (AllByRecursion (AsBad g z) values × (AllByRecursion (λ v. ⊥) values → AsBad g z g.undrawn))
   unfolding worst_of
   worst_bound z [] = (λ h. (tt, λ none. h), λ h. h.1 tt)
   worst_bound z (v ∷ values) = (λ h. ((folded_bound z v values).0 h, λ none. absurd none.0), λ h. (folded_bound z v values).1 h.0)

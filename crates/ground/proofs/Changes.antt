@@ -1,6 +1,6 @@
 -- The value of a stretch, from its begin and the changes within it. Assumes nothing.
 use Rattle.std.proofs.Common.{◌≡◌, ℕ, zero, suc, ◌+◌, ◌-◌, ◌<◌, cond, ◌&&◌, ltb, ◌⊎◌, ◌↔◌, List, [], ◌∷◌, fold, sym, ◌∙◌, subst, ap₂, inl, inr, ⊎_elim, add-zero, arith}
-use Rattle.std.specs.List.{ContainsAt as Has, AllByRecursion as All}
+use Rattle.std.specs.List.{ContainsAt, AllByRecursion}
 use Rattle.std.proofs.ByRecursion.{All-weaker, all_has_itself}
 use Rattle.std.proofs.lemmas.Bool.{cases_eq}
 use Rattle.std.proofs.lemmas.Bool.Decides.{Decides-and, Decides-ltb}
@@ -17,7 +17,7 @@ abbrev AtEnds : {V : Type 0} → (ℕ → Type 0) → Entry V → Type 0
 AtEnds P entry = P entry.from × P entry.to
 
 -- the next metre is a change, of which P holds, or the same entries cover it
-change_or_same : {V : Type 0} (P : ℕ → Type 0) (x : ℕ) (entries : List (Entry V)) → All (AtEnds P) entries → P (x + 1) ⊎ (values_at entries (x + 1) ≡ values_at entries x)
+change_or_same : {V : Type 0} (P : ℕ → Type 0) (x : ℕ) (entries : List (Entry V)) → AllByRecursion (AtEnds P) entries → P (x + 1) ⊎ (values_at entries (x + 1) ≡ values_at entries x)
 change_or_same P x [] h = inr (values_at_none (x + 1) ∙ sym (values_at_none x))
 change_or_same P x (entry ∷ entries) h =
     let added = λ (same : values_at entries (x + 1) ≡ values_at entries x) (covered : covers (x + 1) entry ≡ covers x entry). values_at_cons entry (x + 1) entries ∙ ap₂ (λ b values. cond b (entry.value ∷ values) values) covered same ∙ sym (values_at_cons entry x entries) in
@@ -33,7 +33,7 @@ module _ {V : Type 0} {g : Grading V} (laws : Lawful g) (entries : List (Entry V
   Held z x = (a < x) × (x < b) → AsBad g z (metre_value g entries x)
 
   -- as bad as the ground at the begin and at each change within is as bad as the ground at each metre
-  held_at : (z : V) → AsBad g z (metre_value g entries a) → All (AtEnds (Held z)) entries → (n : ℕ) → a + n < b → AsBad g z (metre_value g entries (a + n))
+  held_at : (z : V) → AsBad g z (metre_value g entries a) → AllByRecursion (AtEnds (Held z)) entries → (n : ℕ) → a + n < b → AsBad g z (metre_value g entries (a + n))
   unfolding metre_value
   held_at z begin changes zero l = rw add-zero begin
   held_at z begin changes (suc n) l =
@@ -46,7 +46,7 @@ module _ {V : Type 0} {g : Grading V} (laws : Lawful g) (entries : List (Entry V
   at_bound z worst x =
       cond_bound laws z worst (metre_value g entries x) (ltb a x && ltb x b) ((a < x) × (x < b)) (Decides-and (ltb a x) (ltb x b) (Decides-ltb a x) (Decides-ltb x b))
 
-  passed_bound : (z worst : V) (seen : List (Entry V)) → AsBad g z (fold (worsened_by g entries a b) worst seen) ↔ (AsBad g z worst × All (AtEnds (Held z)) seen)
+  passed_bound : (z worst : V) (seen : List (Entry V)) → AsBad g z (fold (worsened_by g entries a b) worst seen) ↔ (AsBad g z worst × AllByRecursion (AtEnds (Held z)) seen)
   passed_bound z worst [] = (λ h. (h, tt), λ h. h.0)
   passed_bound z worst (entry ∷ seen) =
       let rest = passed_bound z (worsened_by g entries a b worst entry) seen in
@@ -67,5 +67,5 @@ module _ {V : Type 0} {g : Grading V} (laws : Lawful g) (entries : List (Entry V
             each.1 (λ x low high. let there : a + (x - a) ≡ x = omega arith in subst (λ y. AsBad g z (metre_value g entries y)) there (held_at z bound.0 bound.1 (x - a) (omega arith))),
         λ h.
             let held = λ (x : ℕ) (within : (a < x) × (x < b)). each.0 h x (omega arith) (omega arith) in
-            changes.1 (each.0 h a (omega arith) l, All-weaker (Has entries) (AtEnds (Held z)) (λ entry has. (held entry.from, held entry.to)) entries (all_has_itself entries)),
+            changes.1 (each.0 h a (omega arith) l, All-weaker (ContainsAt entries) (AtEnds (Held z)) (λ entry has. (held entry.from, held entry.to)) entries (all_has_itself entries)),
       ))

@@ -1,7 +1,7 @@
 -- The laws of a stretch's value, from what is as bad as its metres. Assumes nothing.
 use Rattle.std.proofs.Common.{◌≡◌, ℕ, ◌+◌, ◌-◌, ◌<◌, ◌≤◌, max, ◌↔◌, List, map, ap, ◌∙◌, subst, ⊎_elim, arith}
 use mathlib.Core.Path.{fun_ext}
-use Rattle.std.specs.List.{range_with_len, ContainsAt as Has}
+use Rattle.std.specs.List.{range_with_len, ContainsAt}
 use Rattle.std.proofs.ByRecursion.{All-weaker, all-has, all_has_itself, has_shuffled}
 use Rattle.std.proofs.lemmas.List.Sorted.{IsPermutation-sym}
 use Rattle.std.proofs.lemmas.Bool.{cases_lt}
@@ -44,7 +44,7 @@ module _ {V : Type 0} {g : Grading V} (laws : Lawful g) (entries : List (Entry V
   entrywise z a b l =
       let at = λ (h : AsBad g z (stretch_value g entries a b)) (x : ℕ) (low : a ≤ x) (high : x < b). (metre_bound laws z entries x).0 ((metrewise laws entries z a b l).0 h x low high) in (
         λ h. (
-          All-weaker (Has entries) (λ entry. Meets a b entry → AsBad g z entry.value)
+          All-weaker (ContainsAt entries) (λ entry. Meets a b entry → AsBad g z entry.value)
               (λ entry has meets. all-has _ entries entry (at h (max a entry.from) (omega arith) (omega arith)).0 has (covers_from_within entry (max a entry.from) (omega arith) (omega arith)))
               entries (all_has_itself entries),
           λ bare. (at h bare.0 bare.1.0 bare.1.1).1 bare.1.2,

@@ -1,7 +1,7 @@
 -- What is as bad as the value of a metre, or of a stretch. Assumes nothing.
 use Rattle.std.proofs.Common.{◌≡◌, ℕ, zero, suc, ◌+◌, ◌-◌, ◌<◌, ◌≤◌, true, false, cond, ◌↔◌, List, [], ◌∷◌, map, refl, subst, ⊎_elim, arith}
 use mathlib.Core.Logic.Iff
-use Rattle.std.specs.List.{range_with_len, ContainsAt as Has, AllByRecursion as All}
+use Rattle.std.specs.List.{range_with_len, ContainsAt, AllByRecursion}
 use Rattle.std.proofs.ByRecursion.{All-weaker, all-has, all_has_itself}
 use Rattle.std.proofs.lemmas.Bool.{false≢true, cases_lt}
 use Rattle.ground.specs.Grading.{Grading, Lawful, AsBad}
@@ -12,7 +12,7 @@ use Rattle.ground.proofs.Covered.{values_at_none, values_at_cons}
 use Rattle.ground.proofs.Bounds.{same_bounds, worst_bound}
 
 -- what holds of each number counted, under a function
-all_counted : {X : Type 0} (f : ℕ → X) (P : X → Type 0) (a n : ℕ) → All P (map f (range_with_len a n)) ↔ ((x : ℕ) → a ≤ x → x < a + n → P (f x))
+all_counted : {X : Type 0} (f : ℕ → X) (P : X → Type 0) (a n : ℕ) → AllByRecursion P (map f (range_with_len a n)) ↔ ((x : ℕ) → a ≤ x → x < a + n → P (f x))
 all_counted f P a zero = (λ h x low high. let never : ⊥ = omega arith in absurd never, λ h. tt)
 all_counted f P a (suc n) =
     let rest = all_counted f P (a + 1) n in (
@@ -21,23 +21,23 @@ all_counted f P a (suc n) =
     )
 
 -- what holds of the value of each entry that covers the metre
-all_covering : {V : Type 0} (P : V → Type 0) (x : ℕ) (entries : List (Entry V)) → All P (values_at entries x) ↔ All (λ entry. covers x entry ≡ true → P entry.value) entries
+all_covering : {V : Type 0} (P : V → Type 0) (x : ℕ) (entries : List (Entry V)) → AllByRecursion P (values_at entries x) ↔ AllByRecursion (λ entry. covers x entry ≡ true → P entry.value) entries
 all_covering P x [] = rw values_at_none (λ h. tt, λ h. tt)
 all_covering P x (entry ∷ entries) =
     let rest = all_covering P x entries in
     rw (values_at_cons entry x entries)
     (elim (covers x entry) as
-    (λ b. All P (cond b (entry.value ∷ values_at entries x) (values_at entries x)) ↔ ((b ≡ true → P entry.value) × All (λ e. covers x e ≡ true → P e.value) entries)) [
+    (λ b. AllByRecursion P (cond b (entry.value ∷ values_at entries x) (values_at entries x)) ↔ ((b ≡ true → P entry.value) × AllByRecursion (λ e. covers x e ≡ true → P e.value) entries)) [
       | true ↦ (λ h. (λ e. h.0, rest.0 h.1), λ h. (h.0 refl, rest.1 h.1))
       | false ↦ (λ h. (λ e. absurd (false≢true e), rest.0 h), λ h. rest.1 h.1)
     ])
 
-all_same : {X : Type 0} (es fs : List X) → ((e : X) → Has es e ↔ Has fs e) → (P : X → Type 0) → All P es → All P fs
-all_same es fs same P h = All-weaker (Has fs) P (λ e has. all-has P es e h ((same e).1 has)) fs (all_has_itself fs)
+all_same : {X : Type 0} (es fs : List X) → ((e : X) → ContainsAt es e ↔ ContainsAt fs e) → (P : X → Type 0) → AllByRecursion P es → AllByRecursion P fs
+all_same es fs same P h = All-weaker (ContainsAt fs) P (λ e has. all-has P es e h ((same e).1 has)) fs (all_has_itself fs)
 
 module _ {V : Type 0} {g : Grading V} (laws : Lawful g) where
   -- ---- one metre
-  pub metre_bound : (z : V) (entries : List (Entry V)) (x : ℕ) → AsBad g z (metre_value g entries x) ↔ (All (λ entry. covers x entry ≡ true → AsBad g z entry.value) entries × (All (λ entry. covers x entry ≡ true → ⊥) entries → AsBad g z g.undrawn))
+  pub metre_bound : (z : V) (entries : List (Entry V)) (x : ℕ) → AsBad g z (metre_value g entries x) ↔ (AllByRecursion (λ entry. covers x entry ≡ true → AsBad g z entry.value) entries × (AllByRecursion (λ entry. covers x entry ≡ true → ⊥) entries → AsBad g z g.undrawn))
   unfolding metre_value
   metre_bound z entries x =
       let worst = worst_bound laws z (values_at entries x) in

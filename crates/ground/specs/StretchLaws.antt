@@ -7,23 +7,23 @@
 --     StretchLaws g               it holds whatever the entries
 use Rattle.std.specs.Prelude.{◌≡◌, ℕ, ◌+◌, ◌<◌, ◌≤◌, min, max, true, ◌↔◌, List, ◌≢◌}
 use Rattle.std.specs.List.Sorted.{IsPermutation}
-use Rattle.std.specs.List.{ContainsAt as Has, AllByRecursion as All}
+use Rattle.std.specs.List.{ContainsAt, AllByRecursion}
 use Rattle.ground.specs.Grading.{Grading, AsBad}
 use Rattle.ground.specs.Ground.{covers, metre_value, stretch_value}
 use Rattle.ground.specs.declared.entries.Entry.{Entry}
 
 abbrev pub SameEntries : {V : Type 0} → List (Entry V) → List (Entry V) → Type 0
-SameEntries {V} es fs = (entry : Entry V) → Has es entry ↔ Has fs entry
+SameEntries {V} es fs = (entry : Entry V) → ContainsAt es entry ↔ ContainsAt fs entry
 
 -- the later begin lies before the earlier end
 abbrev pub Meets : {V : Type 0} → ℕ → ℕ → Entry V → Type 0
 Meets a b entry = max a entry.from < min b entry.to
 
 abbrev pub NoneWorse : {V : Type 0} → Grading V → List (Entry V) → ℕ → ℕ → V → Type 0
-NoneWorse g entries a b v = All (λ entry. Meets a b entry → AsBad g v entry.value) entries
+NoneWorse g entries a b v = AllByRecursion (λ entry. Meets a b entry → AsBad g v entry.value) entries
 
 abbrev pub Bare : {V : Type 0} → List (Entry V) → ℕ → ℕ → Type 0
-Bare entries a b = (x : ℕ) × ((a ≤ x) × (x < b) × All (λ entry. covers x entry ≢ true) entries)
+Bare entries a b = (x : ℕ) × ((a ≤ x) × (x < b) × AllByRecursion (λ entry. covers x entry ≢ true) entries)
 
 pub record Stretches {V : Type 0} (g : Grading V) (entries : List (Entry V)) : Type 0 where
   -- without metres it counts as undrawn

@@ -1,6 +1,6 @@
 -- The two readings of rule 1 agree. Assumes nothing.
 use Rattle.std.proofs.Common.{ℕ, zero, suc, ◌<◌, ◌≤◌, ◌↔◌, List, arith}
-use Rattle.std.specs.List.{ContainsAt as Has, AllByRecursion as All}
+use Rattle.std.specs.List.{ContainsAt, AllByRecursion}
 use Rattle.std.proofs.ByRecursion.{All-weaker, all-has, all_has_itself}
 use Rattle.codes.specs.declared.speeds.Speed.{Speed}
 use Rattle.codes.specs.declared.speeds.Code.{Code}
@@ -20,7 +20,7 @@ use Rattle.rules.specs.Readings.{NoneEmpty, reach_begin, reach_end, Reaches, Bel
 use Rattle.rules.proofs.Moved.{moved_none, moved_rises}
 
 -- a speed is at most the worst of a stretch exactly if it is at most each speed that has a metre of it
-below_entries : (entries : List (Entry Speed)) (a b : ℕ) → a < b → (v : Speed) → (kmh v ≤ kmh (stretch_value slowness entries a b)) ↔ All (λ x. Meets a b x → kmh v ≤ kmh x.value) entries
+below_entries : (entries : List (Entry Speed)) (a b : ℕ) → a < b → (v : Speed) → (kmh v ≤ kmh (stretch_value slowness entries a b)) ↔ AllByRecursion (λ x. Meets a b x → kmh v ≤ kmh x.value) entries
 below_entries entries a b l v =
     let law = (stretches slowness_lawful entries).entrywise v a b l in (
       λ below. All-weaker (λ x. Meets a b x → AsBad slowness v x.value) (λ x. Meets a b x → kmh v ≤ kmh x.value) (λ x bad meets. slow_from_as_bad v x.value (bad meets)) entries
@@ -53,7 +53,7 @@ module _ (track : Track) (mark : Mark) (E : Emergencies) (D : Services) where
   agree : NoneEmpty track.restrictions → (j : ℕ) → Reaches track mark j → (c : Code) → Touching track mark E D j c ↔ BelowWorst track mark j c
   agree some j reaches Stop = (
     λ touching. omega arith,
-    λ below. All-weaker (Has track.restrictions) _ (λ x has before ends begins. omega arith) track.restrictions (all_has_itself track.restrictions),
+    λ below. All-weaker (ContainsAt track.restrictions) _ (λ x has before ends begins. omega arith) track.restrictions (all_has_itself track.restrictions),
   )
   agree some j reaches (Go v) =
       let law = below_entries track.restrictions (reach_begin track j) (reach_end track mark j) reaches v in (
@@ -61,7 +61,7 @@ module _ (track : Track) (mark : Mark) (E : Emergencies) (D : Services) where
             (All-weaker _ (λ x. Meets (reach_begin track j) (reach_end track mark j) x → kmh v ≤ kmh x.value) (λ x low meets. low (omega arith) (omega arith) (omega arith)) track.restrictions touching),
         λ below.
             let each = law.0 below in
-            All-weaker (Has track.restrictions) _
+            All-weaker (ContainsAt track.restrictions) _
             (λ x has before ends begins. all-has _ track.restrictions x each has (let metre = all-has (λ (x : Entry Speed). x.from < x.to) track.restrictions x some has in omega arith))
             track.restrictions (all_has_itself track.restrictions),
       )

@@ -11,7 +11,7 @@
 --     Caps .. j limits        the codes that obey rule 1, 2, 3 or 4 in interval j are those up to the limit by that rule
 --     Within limits c         the code is above none of the four limits; within is the test of a speed
 use Rattle.std.specs.Prelude.{◌≡◌, ℕ, ◌+◌, ◌-◌, ◌<◌, ◌≤◌, Bool, not, ◌&&◌, List, nat_le, nat_lt}
-use Rattle.std.specs.List.{AllByRecursion as All}
+use Rattle.std.specs.List.{AllByRecursion}
 use Rattle.codes.specs.declared.speeds.Speed.{Speed}
 use Rattle.codes.specs.declared.speeds.Code.{Code}
 use Rattle.codes.specs.declared.speeds.Code.TheVariants.{Stop, Go}
@@ -46,8 +46,8 @@ abbrev pub Stopped : Emergencies → List (Entry Class) → Place → Code → T
 Stopped E gradients place c = Halts (λ v. E (stretch_value steepness gradients (place.end - train_length) place.danger) v Stop) c (place.danger - place.end)
 
 pub record Placed (E : Emergencies) (D : Services) (gradients : List (Entry Class)) (restrictions : List (Entry Speed)) (place : Place) (limits : Limits) : Type 0 where
-  pub touching : UpTo (λ c. All (λ x. Touched place x c) restrictions) limits.touching
-  pub ahead : UpTo (λ c. All (λ x. Braked E gradients place x c) restrictions) limits.ahead
+  pub touching : UpTo (λ c. AllByRecursion (λ x. Touched place x c) restrictions) limits.touching
+  pub ahead : UpTo (λ c. AllByRecursion (λ x. Braked E gradients place x c) restrictions) limits.ahead
   pub service : UpTo (Served D gradients place) limits.service
   pub stopping : UpTo (Stopped E gradients place) limits.stopping
 

@@ -7,7 +7,7 @@
 --     Readings                     on every line the two readings of rule 1 agree where each restriction and the reach of the
 --                                  interval have a metre, and up to a mark's interval the reach has one
 use Rattle.std.specs.Prelude.{ℕ, ◌-◌, ◌<◌, ◌≤◌, min, ◌↔◌, List}
-use Rattle.std.specs.List.{AllByRecursion as All}
+use Rattle.std.specs.List.{AllByRecursion}
 use Rattle.codes.specs.declared.speeds.Code.{Code}
 use Rattle.codes.specs.Speeds.{kmh, byte}
 use Rattle.ground.specs.declared.entries.Entry.{Entry}
@@ -18,7 +18,7 @@ use Rattle.rules.specs.Tracks.{Track, Mark, Stands, begin_of, end_of}
 use Rattle.rules.specs.Rules.{train_length, Touching}
 
 abbrev pub NoneEmpty : {V : Type 0} → List (Entry V) → Type 0
-NoneEmpty entries = All (λ entry. entry.from < entry.to) entries
+NoneEmpty entries = AllByRecursion (λ entry. entry.from < entry.to) entries
 
 abbrev pub reach_begin : Track → ℕ → ℕ
 reach_begin track j = begin_of track j - train_length

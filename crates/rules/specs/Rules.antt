@@ -9,7 +9,7 @@
 --     Allowed j c w         interval j may have code c before one with code w
 --     Lawful approach row   every interval from the approach to the mark's obeys all five rules
 use Rattle.std.specs.Prelude.{◌≡◌, ℕ, zero, suc, ◌+◌, ◌-◌, ◌<◌, ◌≤◌, ◌⊎◌, List, [], ◌∷◌, length, slice_index_or}
-use Rattle.std.specs.List.{AllByRecursion as All}
+use Rattle.std.specs.List.{AllByRecursion}
 use Rattle.codes.specs.declared.speeds.Speed.{Speed}
 use Rattle.codes.specs.declared.speeds.Code.{Code}
 use Rattle.codes.specs.declared.speeds.Code.TheVariants.{Stop, Go}
@@ -60,11 +60,11 @@ module _ (track : Track) (mark : Mark) (E : Emergencies) (D : Services) where
   -- 1. A restriction that begins before the danger point and touches the interval, the train's length behind it included,
   -- is not exceeded.
   abbrev pub Touching : ℕ → Code → Type 0
-  Touching j c = All (λ x. x.from < mark.danger → x.from < end_of track j → begin_of track j < x.to + train_length → byte c ≤ kmh x.value) track.restrictions
+  Touching j c = AllByRecursion (λ x. x.from < mark.danger → x.from < end_of track j → begin_of track j < x.to + train_length → byte c ≤ kmh x.value) track.restrictions
 
   -- 2. A restriction that begins ahead, before the danger point: the train is down to its speed where it begins.
   abbrev pub Ahead : ℕ → Code → Type 0
-  Ahead j c = All (λ x. x.from < mark.danger → end_of track j ≤ x.from → Down E (class_from j x.from) c (Go x.value) (x.from - end_of track j)) track.restrictions
+  Ahead j c = AllByRecursion (λ x. x.from < mark.danger → end_of track j ≤ x.from → Down E (class_from j x.from) c (Go x.value) (x.from - end_of track j)) track.restrictions
 
   -- 3. A train stops before the mark by service braking.
   abbrev pub Service : ℕ → Code → Type 0
@@ -102,7 +102,7 @@ module _ (track : Track) (mark : Mark) (E : Emergencies) (D : Services) where
   Obeys j c w next = Next j c w
 
   abbrev pub Allowed : ℕ → Code → Code → Type 0
-  Allowed j c w = All (Obeys j c w) rules
+  Allowed j c w = AllByRecursion (Obeys j c w) rules
 
 -- the codes of the approach and of a row's intervals; stop behind the row
 abbrev pub code_at : Speed → List Code → ℕ → Code

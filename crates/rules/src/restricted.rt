@@ -1,6 +1,6 @@
 // The highest codes of an interval by the restrictions that touch it and by those ahead of it.
 ghost use Rattle.std.specs.Prelude.{◌≡◌, ◌-◌, min};
-ghost use Rattle.std.specs.List.{AllByRecursion as All};
+ghost use Rattle.std.specs.List.{AllByRecursion};
 ghost use Rattle.codes.specs.Speeds.{byte};
 ghost use Rattle.ground.specs.Ground.{stretch_value};
 ghost use Rattle.ground.specs.Kinds.{steepness};
@@ -82,7 +82,7 @@ fn ahead_code<B: BrakingBook>(
 
 // The highest code by all restrictions that touch the interval.
 pub fn touching_limit(restrictions: &[Entry<Speed>], place: &Place) -> Code
-    ensures { UpTo (λ c. All (λ x. Touched place.now x c) restrictions.now) result }
+    ensures { UpTo (λ c. AllByRecursion (λ x. Touched place.now x c) restrictions.now) result }
 {
     let mut limit = Code::Go(Speed::V120);
     for restriction in restrictions {
@@ -98,7 +98,7 @@ pub fn ahead_limit<B: BrakingBook>(
     place: &Place,
     book: &B,
 ) -> Code
-    ensures { UpTo (λ c. All (λ x. Braked (B.BrakingBook.emergencies book.now) gradients.now place.now x c) restrictions.now) result }
+    ensures { UpTo (λ c. AllByRecursion (λ x. Braked (B.BrakingBook.emergencies book.now) gradients.now place.now x c) restrictions.now) result }
 {
     let mut limit = Code::Go(Speed::V120);
     for restriction in restrictions {

@@ -23,9 +23,9 @@ first_pace a b heard heard' told told' later later' is is' e =
 
 -- ---- the five numbers
 
-numbers_same : (n m : Numbers) → n.pace ≡ m.pace → n.carried ≡ m.carried → n.heard ≡ m.heard → n.rolled ≡ m.rolled → n.ground ≡ m.ground → n ≡ m
+numbers_same : (n m : Numbers) → n.pace ≡ m.pace → n.carried ≡ m.carried → n.heard ≡ m.heard → n.rolled ≡ m.rolled → n.gradient ≡ m.gradient → n ≡ m
 numbers_same n m pace carried heard rolled ground =
-    let same : ◌≡◌ {A = Numbers} (record { pace = n.pace; carried = n.carried; heard = n.heard; rolled = n.rolled; ground = n.ground }) (record { pace = m.pace; carried = m.carried; heard = m.heard; rolled = m.rolled; ground = m.ground }) = cc in
+    let same : ◌≡◌ {A = Numbers} (record { pace = n.pace; carried = n.carried; heard = n.heard; rolled = n.rolled; gradient = n.gradient }) (record { pace = m.pace; carried = m.carried; heard = m.heard; rolled = m.rolled; gradient = m.gradient }) = cc in
     same
 
 journey_same : (one other : Journey) → one.position ≡ other.position → one.told ≡ other.told → one.train ≡ other.train → one ≡ other
@@ -36,11 +36,11 @@ journey_same one other position told train =
 module _ (E : Emergencies) (m n n' : Numbers) where
   hears_same : (code code' : Code) (class class' : Class) → code ≡ code' → class ≡ class' → Hears E code class m n → Hears E code' class' m n' → n.pace ≡ n'.pace → n ≡ n'
   hears_same code code' class class' same_code same_Class one other pace =
-      numbers_same n n' pace (one.carried ∙ sym other.carried) (one.heard ∙ same_code ∙ sym other.heard) (one.rolled ∙ sym other.rolled) (one.ground ∙ same_Class ∙ sym other.ground)
+      numbers_same n n' pace (one.carried ∙ sym other.carried) (one.heard ∙ same_code ∙ sym other.heard) (one.rolled ∙ sym other.rolled) (one.gradient ∙ same_Class ∙ sym other.gradient)
 
   rolls_same : (class : Class) → Rolls E class m n → Rolls E class m n' → n.pace ≡ n'.pace → n ≡ n'
   rolls_same class one other pace =
-      numbers_same n n' pace (one.carried ∙ sym other.carried) (one.heard ∙ sym other.heard) (one.rolled ∙ sym other.rolled) (one.ground ∙ sym other.ground)
+      numbers_same n n' pace (one.carried ∙ sym other.carried) (one.heard ∙ sym other.heard) (one.rolled ∙ sym other.rolled) (one.gradient ∙ sym other.gradient)
 
 -- ---- setting off and moving on
 

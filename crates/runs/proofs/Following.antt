@@ -9,7 +9,7 @@
 --     history_on sheet rows sought    that history
 --     Kept rows sought sheet call o after     the answer is right, and the sheet after the call follows the history after it
 use Rattle.std.proofs.Common.{◌≡◌, ℕ, ◌≤◌, cond, List, [], length}
-use Rattle.std.specs.List.{AllByRecursion as All}
+use Rattle.std.specs.List.{AllByRecursion}
 use Rattle.laws.specs.Books.{Emergencies, Services, Distances, Laws}
 use Rattle.ground.specs.Tables.{contents}
 use Rattle.rules.specs.Rules.{Lawful}
@@ -39,8 +39,8 @@ pub record Sound (sizes : Sizes) (heading : Heading) (tables : Tables) : Type 0 
   pub marks : Stock sizes.marks heading.marks tables.marks
   pub row : sizes.row ≡ length tables.row
   pub most : heading.intervals ≤ most_intervals
-  pub fit_intervals : All FitInterval (contents tables.intervals heading.intervals)
-  pub fit_marks : All FitMark (contents tables.marks heading.marks)
+  pub fit_intervals : AllByRecursion FitInterval (contents tables.intervals heading.intervals)
+  pub fit_marks : AllByRecursion FitMark (contents tables.marks heading.marks)
 
 abbrev pub history_on : Sheet → List WorkedRow → ℕ → History
 history_on sheet rows sought = record { drawing = drawn sheet.heading sheet.tables; worked_rows = rows; sought = sought }
@@ -62,9 +62,9 @@ module _ (E : Emergencies) (D : Services) (distances : Distances E D) (laws : La
 
   abbrev pub In : Drawing → List ℕ → List WorkedRow → ℕ → Phase → Type 0
   In d bytes rows sought drawing = rows ≡ []
-  In d bytes rows sought closed = All (WorkedOn d) rows
-  In d bytes rows sought (passed pass) = All (WorkedOn d) rows × Passing d sought bytes pass
-  In d bytes rows sought (running pass journey) = All (WorkedOn d) rows × Underway d sought bytes pass journey
+  In d bytes rows sought closed = AllByRecursion (WorkedOn d) rows
+  In d bytes rows sought (passed pass) = AllByRecursion (WorkedOn d) rows × Passing d sought bytes pass
+  In d bytes rows sought (running pass journey) = AllByRecursion (WorkedOn d) rows × Underway d sought bytes pass journey
 
   module _ (sizes : Sizes) where
     pub record Follows (rows : List WorkedRow) (sought : ℕ) (sheet : Sheet) : Type 0 where

@@ -1,6 +1,6 @@
 -- Working out a row and submitting one keep a sheet and its history in step. Assumes nothing.
 use Rattle.std.proofs.Common.{◌≡◌, ℕ, ◌≤◌, List, ◌∷◌, length, take, drop, None, sym, refl, ◌∙◌, subst, inl, arith}
-use Rattle.std.specs.List.{ContainsAt as Has, AllByRecursion as All}
+use Rattle.std.specs.List.{ContainsAt, AllByRecursion}
 use Rattle.std.proofs.lemmas.List.{length-map, length-take, length-drop, length-append, take_at}
 use Rattle.std.proofs.ByRecursion.{all-has}
 use Rattle.std.proofs.lemmas.Bool.Decides.{nat_tests}
@@ -42,7 +42,7 @@ module _ (row table : List ℕ) where
 -- ---- the two calls
 module _ (E : Emergencies) (D : Services) (distances : Distances E D) (laws : Laws E D) (sizes : Sizes) (rows : List WorkedRow) (sought : ℕ)
     (s : Sheet) (follows : Follows E D distances laws sizes rows sought s) (is-closed : s.phase ≡ closed) (lent : Lent) (mark approach : ℕ) where
-  worked_rows : All (WorkedOn E D distances laws (drawn s.heading s.tables)) rows
+  worked_rows : AllByRecursion (WorkedOn E D distances laws (drawn s.heading s.tables)) rows
   worked_rows = subst (In E D distances laws (drawn s.heading s.tables) s.tables.row rows sought) is-closed follows.inside
 
   pub kept_work_out : (bytes : List ℕ) (t : Sheet) {o : Outcome} → WorksOut E D s mark approach bytes o → t ≡ s
@@ -63,7 +63,7 @@ module _ (E : Emergencies) (D : Services) (distances : Distances E D) (laws : La
 
   module _ (row : List ℕ) where
     -- a row that was worked out does not fail
-    not_failed : (n : ℕ × List ℕ) → Has rows (record { mark = mark; approach = approach; row = row }) → Failed (drawn s.heading s.tables) mark approach E D row n → ⊥
+    not_failed : (n : ℕ × List ℕ) → ContainsAt rows (record { mark = mark; approach = approach; row = row }) → Failed (drawn s.heading s.tables) mark approach E D row n → ⊥
     not_failed n has =
         let found = all-has (WorkedOn E D distances laws (drawn s.heading s.tables)) rows (record { mark = mark; approach = approach; row = row }) worked_rows has in
         not_failed_from_passed (drawn s.heading s.tables) mark approach E D row n

@@ -1,6 +1,6 @@
 -- A mark on a sheet stands on a line that trains can be safe on. Assumes nothing.
 use Rattle.std.proofs.Common.{◌≡◌, ℕ, zero, suc, ◌-◌, ◌<◌, ◌≤◌, Bool, true, false, cond, eqb, ◌⊎◌, List, [], ◌∷◌, Some, Option, subst, inl, inr, ⊎_elim, arith}
-use Rattle.std.specs.List.{AllByRecursion as All}
+use Rattle.std.specs.List.{AllByRecursion}
 use Rattle.std.proofs.lemmas.List.{length-map}
 use Rattle.std.proofs.ByRecursion.{All-map, All-weaker}
 use Rattle.rules.specs.declared.lines.Interval.{Interval}
@@ -22,7 +22,7 @@ one_of_two true x mark later found = inl cc
 one_of_two false x mark later found = inr found
 
 -- the mark with a number is one of the marks
-marked_fit : (marks : List StopMark) (number : ℕ) (mark : StopMark) → marked marks number ≡ Some mark → All FitMark marks → FitMark mark
+marked_fit : (marks : List StopMark) (number : ℕ) (mark : StopMark) → marked marks number ≡ Some mark → AllByRecursion FitMark marks → FitMark mark
 marked_fit [] number mark found fit = absurd (let z : ◌≡◌ {A = ℕ} 0 1 = cc in omega arith)
 marked_fit (x ∷ marks) number mark found fit =
     ⊎_elim (λ same. subst FitMark same fit.0) (λ later. marked_fit marks number mark later fit.1) (one_of_two (eqb x.number number) x mark (marked marks number) found)

@@ -1,6 +1,6 @@
 -- Striking an entry, closing and reopening keep a sheet and its history in step. Assumes nothing.
 use Rattle.std.proofs.Common.{◌≡◌, ℕ, ◌-◌, List, take, sym, refl, subst}
-use Rattle.std.specs.List.{AllByRecursion as All}
+use Rattle.std.specs.List.{AllByRecursion}
 use Rattle.laws.specs.Books.{Emergencies, Services, Distances, Laws}
 use Rattle.ground.specs.Tables.{closed_up}
 use Rattle.ground.proofs.InUse.{contents_closed_up}
@@ -64,7 +64,7 @@ module _ (E : Emergencies) (D : Services) (distances : Distances E D) (laws : La
       record {
         right = tt;
         drawing = refl;
-        follows = record { sound = sound; inside = subst (All (WorkedOn E D distances laws (drawn heading tables))) (sym rows_none) tt };
+        follows = record { sound = sound; inside = subst (AllByRecursion (WorkedOn E D distances laws (drawn heading tables))) (sym rows_none) tt };
       }
 
   pub done_reopen : Does reopen

@@ -1,6 +1,6 @@
 -- Tables that keep their size as records are entered, struck and lent. Assumes nothing.
 use Rattle.std.proofs.Common.{◌≡◌, ℕ, ◌+◌, ◌-◌, ◌<◌, ◌≤◌, min, false, List, length, take, drop, set, None, arith}
-use Rattle.std.specs.List.{remove, AllByRecursion as All}
+use Rattle.std.specs.List.{remove, AllByRecursion}
 use Rattle.std.proofs.lemmas.List.{length-set, length-take, length-take-le, length-drop, length-append}
 use Rattle.std.proofs.lemmas.List.Edits.{length-remove}
 use Rattle.std.proofs.ByRecursion.{All-push}
@@ -46,6 +46,6 @@ pub place_in_use : {X : Type 0} (table : List X) (count place : ℕ) → strike_
 place_in_use table count place none = grind (arith, nat_tests)
 
 -- the records in use are fit after one more
-pub all_entered : {X : Type 0} (P : X → Type 0) (table : List X) (count : ℕ) (x : X) → count < length table → All P (contents table count) → P x
-    → All P (contents (set table count x) (count + 1))
+pub all_entered : {X : Type 0} (P : X → Type 0) (table : List X) (count : ℕ) (x : X) → count < length table → AllByRecursion P (contents table count) → P x
+    → AllByRecursion P (contents (set table count x) (count + 1))
 all_entered P table count x less all fit = rw (contents_appended table count x less) (All-push P (contents table count) x all fit)

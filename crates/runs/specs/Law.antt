@@ -11,7 +11,7 @@
 --     LawfulAnswers ..          every answer of the list is right
 --     Law E D sizes start calls outcomes     so it is from a blank sheet on
 use Rattle.std.specs.Prelude.{◌≡◌, ℕ, ◌≤◌, min, Bool, true, false, cond, ◌⊎◌, List, [], ◌∷◌, ◌++◌, length, Some, None}
-use Rattle.std.specs.List.{remove, ContainsAt as Has, AllByRecursion as All}
+use Rattle.std.specs.List.{remove, ContainsAt, AllByRecursion}
 use Rattle.codes.specs.Speeds.{kmh}
 use Rattle.laws.specs.Books.{Emergencies, Services}
 use Rattle.rules.specs.declared.lines.StopMark.{StopMark}
@@ -130,7 +130,7 @@ pub record Short (h : History) (position : ℕ) : Type 0 where
   pub short : position ≤ mark.danger
 
 abbrev pub Slow : History → ℕ → ℕ → Type 0
-Slow h position pace = All (λ x. Binds x position → pace ≤ kmh x.value) h.drawing.restrictions
+Slow h position pace = AllByRecursion (λ x. Binds x position → pace ≤ kmh x.value) h.drawing.restrictions
 
 module _ (E : Emergencies) (D : Services) (sizes : Sizes) where
   -- the row is lawful and none higher is, by the sheet and the book of this work-out, and it is written over all the bytes; 13 comes where
@@ -150,7 +150,7 @@ module _ (E : Emergencies) (D : Services) (sizes : Sizes) where
   -- a row worked out since the last reopening, for this mark and approach code, passes
   abbrev pub RightSubmit : History → Lent → ℕ → ℕ → List ℕ → Outcome → Type 0
   RightSubmit h lent mark approach row o =
-      Has h.worked_rows (record { mark = mark; approach = approach; row = row }) → Enough sizes h.drawing lent → (o ≡ done) ⊎ (o ≡ not_taken)
+      ContainsAt h.worked_rows (record { mark = mark; approach = approach; row = row }) → Enough sizes h.drawing lent → (o ≡ done) ⊎ (o ≡ not_taken)
 
   -- the head is not above the danger point, and the pace is at most the speed of every restriction that binds the head
   abbrev pub RightSetOff : History → Outcome → Type 0

@@ -23,7 +23,7 @@ module _ {E : Emergencies} {late after : Numbers} (braked : after ≡ at_pace la
         carried = rolls.carried;
         heard = rolls.heard;
         rolled = rolls.rolled;
-        ground = rolls.ground;
+        gradient = rolls.gradient;
         promise = slower (prompt_pace late) (cond_low (eqb late.rolled 1) late.pace (byte late.heard)) rolls.promise;
       })
 

@@ -38,7 +38,7 @@ module _ (E : Emergencies) (old : ℕ) (n : Numbers) where
         steady = within;
         braked = λ w r came' heard below spent. due r (tested _ _ _ _ _ heard
             (subst (λ u. byte r < kmh u) (lowest_one _ w v came' came) below)
-            (subst (λ u. E n.ground u r ≤ n.rolled) (lowest_one _ w v came' came) spent));
+            (subst (λ u. E n.gradient u r ≤ n.rolled) (lowest_one _ w v came' came) spent));
       }
 
   due_from_promise : (p : ℕ) (v : Speed) → Lowest n.carried (Go v) → Promise E old (at_pace n p) → (r : Code) → down_to E n v r ≡ true → p ≤ byte r

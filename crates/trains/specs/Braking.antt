@@ -24,7 +24,7 @@ pub record Numbers : Type 0 where
   -- how many metres it has rolled since then
   pub rolled : ℕ
   -- the worst class of the ground under it since then, its own length behind it included
-  pub ground : Class
+  pub gradient : Class
 
 pub record Ranged (n : Numbers) : Type 0 where
   pub pace : n.pace ≤ 120
@@ -40,18 +40,18 @@ pub record Promise (E : Emergencies) (old : ℕ) (n : Numbers) : Type 0 where
   pub steady : n.pace ≤ max old (byte n.heard)
   -- where it has rolled the emergency distance from the code that it came with to a lower one, it is down to that
   pub braked : (v : Speed) (r : Code) → Lowest n.carried (Go v) → byte n.heard ≤ byte r → byte r < kmh v
-      → E n.ground v r ≤ n.rolled → n.pace ≤ byte r
+      → E n.gradient v r ≤ n.rolled → n.pace ≤ byte r
 
 pub record Hears (E : Emergencies) (code : Code) (class : Class) (m n : Numbers) : Type 0 where
   pub carried : n.carried ≡ m.pace
   pub heard : n.heard ≡ code
   pub rolled : n.rolled ≡ 0
-  pub ground : n.ground ≡ class
+  pub gradient : n.gradient ≡ class
   pub promise : Promise E m.pace n
 
 pub record Rolls (E : Emergencies) (class : Class) (m n : Numbers) : Type 0 where
   pub carried : n.carried ≡ m.carried
   pub heard : n.heard ≡ m.heard
   pub rolled : n.rolled ≡ min (m.rolled + 1) 4095
-  pub ground : n.ground ≡ steepness.worse m.ground class
+  pub gradient : n.gradient ≡ steepness.worse m.gradient class
   pub promise : Promise E m.pace n

@@ -14,11 +14,11 @@ use Rattle.laws.specs.Books.{Emergencies}
 use Rattle.trains.specs.Braking.{Numbers, Promise}
 
 abbrev pub at_pace : Numbers → ℕ → Numbers
-at_pace n p = record { pace = p; carried = n.carried; heard = n.heard; rolled = n.rolled; ground = n.ground }
+at_pace n p = record { pace = p; carried = n.carried; heard = n.heard; rolled = n.rolled; gradient = n.gradient }
 
 -- r is below v, not below the code that was heard, and as many metres were rolled as it takes to brake from v to r
 abbrev pub down_to : Emergencies → Numbers → Speed → Code → Bool
-down_to E n v r = not (lower r n.heard) && (lower r (Go v) && nat_le (E n.ground v r) n.rolled)
+down_to E n v r = not (lower r n.heard) && (lower r (Go v) && nat_le (E n.gradient v r) n.rolled)
 
 abbrev pub Least : (Code → Bool) → Option Code → Type 0
 Least test None = (c : Code) → test c ≡ false

@@ -9,7 +9,7 @@ use Rattle.ground.specs.Kinds.{steepness}
 use Rattle.trains.specs.Braking.{Numbers}
 
 abbrev pub started : ℕ → Numbers
-started pace = record { pace = pace; carried = pace; heard = Stop; rolled = 0; ground = steepness.undrawn }
+started pace = record { pace = pace; carried = pace; heard = Stop; rolled = 0; gradient = steepness.undrawn }
 
 abbrev pub Started : {T : Type 0} → (T → Numbers) → ℕ → Result T Refusal → Type 0
 Started numbers pace (Ok train) = (pace ≤ 120) × (numbers train ≡ started pace)
