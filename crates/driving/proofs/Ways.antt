@@ -2,7 +2,7 @@
 --     On track mark .. journey    the train is on its way as the row lets it
 --     on_set_off, on_moves        it is once it has set off, and stays so
 --     on_safe                     while it is, it is safe
-use Rattle.std.proofs.Common.{◌≡◌, ℕ, zero, suc, ◌+◌, ◌-◌, ◌<◌, ◌≤◌, true, false, List, sym, ap, ◌∙◌, subst, inl, inr, zero-le, arith}
+use Rattle.std.proofs.Common.{◌≡◌, ℕ, suc, ◌+◌, ◌-◌, ◌<◌, ◌≤◌, true, false, List, sym, ap, ◌∙◌, subst, inl, inr, zero-le, arith}
 use native.Mathlib.Decide.{dec_le, dec_lt, ℕ_discrete}
 use borrow.Author.Tests.{both_ways}
 use Rattle.std.specs.List.{ContainsAt}

@@ -1,5 +1,5 @@
 -- The loop of a replay: the run of the calls made so far, and the law over all of it. Assumes nothing.
-use Rattle.std.proofs.Common.{◌≡◌, ℕ, List, [], ◌∷◌, ◌++◌, map, length, None, vec_items, sym, refl, ap, ◌∙◌, subst, append_assoc}
+use Rattle.std.proofs.Common.{◌≡◌, ℕ, List, [], ◌∷◌, ◌++◌, map, length, None, vec_items, sym, ap, ◌∙◌, subst, append_assoc}
 use Rattle.std.proofs.lemmas.List.{map_push, append-nil, nil_from_length}
 use Rattle.laws.specs.Books.{Emergencies, Services, Distances, Laws}
 use Rattle.trains.specs.Braking.{Numbers}

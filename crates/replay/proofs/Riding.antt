@@ -1,5 +1,5 @@
 -- What setting off, stepping and leaving promise is what runs say of them. Assumes nothing.
-use Rattle.std.proofs.Common.{◌≡◌, ℕ, ◌≤◌, Bool, true, false, ◌||◌, List, [], ◌∷◌, length, take, Some, None, Ok, Err, Option, Result, sym, refl, ap, ◌∙◌, subst, arith}
+use Rattle.std.proofs.Common.{◌≡◌, ℕ, ◌≤◌, Bool, true, false, List, [], ◌∷◌, take, Some, None, Ok, Err, Option, Result, sym, refl, ap, ◌∙◌, subst, arith}
 use Rattle.std.proofs.lemmas.Bool.Decides.{nat_tests}
 use Rattle.codes.specs.declared.refusals.Refusal.{Refusal}
 use Rattle.codes.specs.declared.gradients.Class.{Class}
@@ -18,7 +18,7 @@ use Rattle.entering.specs.Entering.{short}
 use Rattle.sheet.specs.Sheets.{Tables, Pass, Sheet, passed_row, closed, passed, running}
 use Rattle.sheet.specs.Faults.{row_short, row_table_size, set_off_fault, step_fault}
 use Rattle.sheet.specs.States.{passed_heading, running_heading, pass_of, passed_of, train_of, journey_of, report_of}
-use Rattle.sheet.specs.Promises.{SetsOut, RunsOver, Stepped, MovesOn, track_with}
+use Rattle.sheet.specs.Promises.{SetsOut, Stepped, MovesOn, track_with}
 use Rattle.sheet.specs.declared.base.Base.{Base}
 use Rattle.sheet.specs.declared.closed.ClosedSheet.{ClosedSheet}
 use Rattle.sheet.specs.declared.passed.PassedSheet.{PassedSheet}
@@ -28,7 +28,7 @@ use Rattle.sheet.specs.declared.reports.Report.{Report}
 use Rattle.runs.specs.Orders.{Lent, Outcome, done, at, left, refused, kept}
 use Rattle.runs.specs.Orders.Order.{set_off, step, leave}
 use Rattle.replay.specs.Meaning.{Performed}
-use Rattle.runs.specs.Runs.{Departs, Steps, stays, moves, Leaves, track_on, told_of}
+use Rattle.runs.specs.Runs.{stays, moves, track_on, told_of}
 use Rattle.replay.proofs.Ruling.{clash, on_base, call, ruled_none, ruled_some}
 use Rattle.replay.proofs.Parts.{contents_part}
 

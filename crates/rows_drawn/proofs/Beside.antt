@@ -1,16 +1,14 @@
 -- Rule 5 for an interval beside the stop ground and before it. Assumes nothing.
-use Rattle.std.proofs.Common.{◌≡◌, ℕ, zero, suc, ◌+◌, ◌-◌, ◌<◌, ◌≤◌, ◌↔◌, List, length, get_or, sym, refl, ap, ◌∙◌, subst, arith}
-use Rattle.std.proofs.lemmas.List.{length-map}
+use Rattle.std.proofs.Common.{◌≡◌, ℕ, suc, ◌+◌, ◌-◌, ◌<◌, ◌≤◌, sym, ap, ◌∙◌, subst, arith}
 use Rattle.codes.specs.declared.speeds.Speed.TheVariants.{V120}
 use Rattle.codes.specs.declared.speeds.Code.{Code}
-use Rattle.codes.specs.declared.speeds.Code.TheVariants.{Stop, Go}
+use Rattle.codes.specs.declared.speeds.Code.TheVariants.{Go}
 use Rattle.codes.specs.Speeds.{byte}
 use Rattle.ground.specs.Ground.{stretch_value}
 use Rattle.ground.specs.Kinds.{steepness}
 use Rattle.laws.specs.Books.{Emergencies, Services, Distances}
 use Rattle.rules.specs.declared.lines.Line.{Line}
-use Rattle.rules.specs.declared.lines.Interval.{Interval}
-use Rattle.rules.specs.Tracks.{Track, Mark, Stands, begin_of, end_of, length_of}
+use Rattle.rules.specs.Tracks.{Stands, begin_of, end_of, length_of}
 use Rattle.rules.specs.Rules.{train_length, Down, Next, Stops}
 use Rattle.rules.specs.Searching.{UpTo}
 use Rattle.rows_drawn.specs.declared.targets.Target.{Target}

@@ -1,13 +1,10 @@
 -- Where the stop ground begins, one interval after the other. Assumes nothing.
-use Rattle.std.proofs.Common.{◌≡◌, ℕ, zero, suc, ◌+◌, ◌-◌, ◌<◌, ◌≤◌, ◌⊎◌, ◌↔◌, List, [], ◌∷◌, sym, refl, ap, ◌∙◌, subst, inl, inr, arith}
-use native.Mathlib.Decide.{dec_le, dec_lt, ℕ_discrete}
-use Rattle.codes.specs.declared.speeds.Speed.{Speed}
-use Rattle.codes.specs.declared.speeds.Code.{Code}
+use Rattle.std.proofs.Common.{◌≡◌, ℕ, suc, ◌<◌, ◌≤◌, sym, refl, subst, arith}
+use native.Mathlib.Decide.{dec_lt, ℕ_discrete}
 use Rattle.codes.specs.declared.speeds.Code.TheVariants.{Stop, Go}
-use Rattle.codes.specs.Speeds.{kmh, byte}
 use Rattle.laws.specs.Books.{Emergencies, Services, Distances}
-use Rattle.rules.specs.Tracks.{Track, Mark, Stands, end_of}
-use Rattle.rules.specs.Rules.{class_from, Fits, Stops, InGround, BeforeGround}
+use Rattle.rules.specs.Tracks.{Track, Mark, Stands}
+use Rattle.rules.specs.Rules.{class_from, Stops, InGround, BeforeGround}
 use Rattle.rows_drawn.specs.Finding.{Reached}
 use Rattle.rows_drawn.specs.WorkingOut.{FirstOfGround}
 

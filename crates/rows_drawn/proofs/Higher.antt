@@ -1,5 +1,5 @@
 -- Before a higher code a code is allowed too, and so the row found is the highest. Assumes nothing.
-use Rattle.std.proofs.Common.{◌≡◌, ℕ, zero, suc, ◌+◌, ◌-◌, ◌<◌, ◌≤◌, ◌⊎◌, ◌↔◌, List, [], ◌∷◌, length, get_or, sym, refl, ap, ◌∙◌, subst, inl, inr, le_trans, arith}
+use Rattle.std.proofs.Common.{◌≡◌, ℕ, zero, suc, ◌+◌, ◌≤◌, List, get_or, sym, subst, inl, inr, le_trans, arith}
 use native.Mathlib.Decide.{dec_le, dec_lt}
 use Rattle.std.proofs.lemmas.List.{get_or_past}
 use Rattle.codes.specs.declared.speeds.Speed.{Speed}
@@ -9,9 +9,9 @@ use Rattle.codes.specs.declared.gradients.Class.{Class}
 use Rattle.codes.specs.Speeds.{kmh, byte}
 use Rattle.laws.specs.Books.{Emergencies, Services, Laws}
 use Rattle.rules.specs.Tracks.{Track, Mark}
-use Rattle.rules.specs.Rules.{Down, Rule, touching, ahead, service, stopping, next, Obeys, Allowed, code_at, Lawful}
+use Rattle.rules.specs.Rules.{Down, Allowed, code_at, Lawful}
 use Rattle.rules.specs.Rows.{AtMost, Highest}
-use Rattle.rows_drawn.specs.Finding.{HighestAt, FoundFrom}
+use Rattle.rows_drawn.specs.Finding.{FoundFrom}
 
 module _ (E : Emergencies) (D : Services) (laws : Laws E D) where
   pub down_higher : (k : Class) (c w w' : Code) (metres : ℕ) → byte w ≤ byte w' → Down E k c w metres → Down E k c w' metres

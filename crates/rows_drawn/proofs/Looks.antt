@@ -1,5 +1,5 @@
 -- The first break, one interval further back. Assumes nothing.
-use Rattle.std.proofs.Common.{◌≡◌, ℕ, zero, suc, ◌+◌, ◌-◌, ◌<◌, ◌≤◌, ◌↔◌, List, [], length, get_or, Some, None, Option, sym, refl, ap, ◌∙◌, subst, arith}
+use Rattle.std.proofs.Common.{◌≡◌, ℕ, suc, ◌<◌, ◌≤◌, ◌↔◌, List, length, get_or, Some, None, Option, subst, arith}
 use native.Mathlib.Decide.{ℕ_discrete}
 use Rattle.codes.specs.declared.speeds.Speed.{Speed}
 use Rattle.codes.specs.declared.speeds.Code.{Code}
@@ -7,12 +7,12 @@ use Rattle.codes.specs.declared.speeds.Code.TheVariants.{Stop}
 use Rattle.codes.specs.Speeds.{byte}
 use Rattle.laws.specs.Books.{Emergencies, Services}
 use Rattle.rules.specs.Tracks.{Track, Mark}
-use Rattle.rules.specs.Rules.{Rule, touching, ahead, service, stopping, next, rule_number, Obeys, Allowed, code_at, Lawful}
+use Rattle.rules.specs.Rules.{Rule, touching, ahead, service, stopping, next, Obeys, code_at, Lawful}
 use Rattle.rules.specs.Rows.{Breaks}
 use Rattle.rows_drawn.specs.declared.passing.FiveCaps.{FiveCaps}
 use Rattle.rows_drawn.specs.declared.breaks.Break.{Break}
 use Rattle.rows_drawn.specs.Passing.{Five, WithinFive}
-use Rattle.rows_drawn.specs.Examining.{cap, Broken, Looked, obeyed, breaks, AllowedAt, BreaksFrom, Known}
+use Rattle.rows_drawn.specs.Examining.{cap, Looked, obeyed, breaks, AllowedAt, Known}
 use Rattle.rows_drawn.proofs.Settles.{allowed_within}
 
 module _ (track : Track) (mark : Mark) (E : Emergencies) (D : Services) where

@@ -1,9 +1,9 @@
 -- An interval to which the limits leave nothing but stop. Assumes nothing.
-use Rattle.std.proofs.Common.{◌≡◌, ℕ, suc, ◌+◌, ◌-◌, ◌<◌, ◌≤◌, ◌↔◌, sym, refl, ap, arith}
+use Rattle.std.proofs.Common.{◌≡◌, ℕ, ◌≤◌, ◌↔◌, refl, arith}
 use Rattle.codes.specs.declared.speeds.Speed.{Speed}
 use Rattle.codes.specs.declared.speeds.Code.{Code}
 use Rattle.codes.specs.declared.speeds.Code.TheVariants.{Stop, Go}
-use Rattle.codes.specs.Speeds.{kmh, byte}
+use Rattle.codes.specs.Speeds.{kmh}
 use Rattle.laws.specs.Books.{Emergencies, Services}
 use Rattle.rules.specs.declared.places.Limits.{Limits}
 use Rattle.rules.specs.Tracks.{Track, Mark}

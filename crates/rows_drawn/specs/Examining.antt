@@ -3,7 +3,7 @@
 --     Looked caps c j before r   interval j with code c was looked at: r is its first broken rule, else what was known before
 --     Known .. j r               r is the first break among the intervals behind the j-th, if there is one
 --     Examined .. r              r is a pass of a lawful row, or the first refusal that is due
-use Rattle.std.specs.Prelude.{◌≡◌, ℕ, suc, ◌<◌, ◌≤◌, List, [], ◌∷◌, length, Some, None, Ok, Err, Option, Result, ◌≢◌, slice_index_or}
+use Rattle.std.specs.Prelude.{◌≡◌, ℕ, ◌<◌, ◌≤◌, List, [], ◌∷◌, length, Some, None, Ok, Err, Option, Result, ◌≢◌, slice_index_or}
 use Rattle.codes.specs.declared.speeds.Speed.{Speed}
 use Rattle.codes.specs.declared.speeds.Code.{Code}
 use Rattle.codes.specs.declared.speeds.Code.TheVariants.{Stop}
@@ -18,7 +18,7 @@ use Rattle.rows_drawn.specs.declared.targets.Target.{Target}
 use Rattle.rows_drawn.specs.declared.passing.FiveCaps.{FiveCaps}
 use Rattle.rows_drawn.specs.declared.breaks.Break.{Break}
 use Rattle.rows_drawn.specs.Drawings.{Drawing, track_drawn}
-use Rattle.rows_drawn.specs.Targets.{track_of, mark_of, LocatedAt, Absent}
+use Rattle.rows_drawn.specs.Targets.{mark_of, LocatedAt, Absent}
 use Rattle.rows_drawn.specs.Passing.{WithinFive, codes_of}
 use Rattle.rows_drawn.specs.WorkingOut.{Spells, Asked}
 

@@ -5,14 +5,14 @@
 --     WithinFive caps c               the code is above none of the five caps
 --     Joins first j limits r          the stop ground from first on begins at r once interval j was passed
 --     read_code b, codes_of bytes     the codes of a row's bytes
-use Rattle.std.specs.Prelude.{◌≡◌, ℕ, suc, ◌+◌, ◌-◌, ◌<◌, ◌≤◌, min, List, map, ◌≢◌}
+use Rattle.std.specs.Prelude.{◌≡◌, ℕ, suc, ◌<◌, ◌≤◌, List, map, ◌≢◌}
 use Rattle.std.specs.Option.{unwrap_or}
 use Rattle.codes.specs.declared.speeds.Code.{Code}
 use Rattle.codes.specs.declared.speeds.Code.TheVariants.{Stop}
 use Rattle.codes.specs.Speeds.{byte, code_of}
 use Rattle.laws.specs.Books.{Emergencies, Services}
 use Rattle.rules.specs.declared.lines.Line.{Line}
-use Rattle.rules.specs.Tracks.{Track, Mark, begin_of, end_of}
+use Rattle.rules.specs.Tracks.{Track, Mark, end_of}
 use Rattle.rules.specs.Rules.{Next}
 use Rattle.rules.specs.Searching.{UpTo}
 use Rattle.rules.specs.declared.places.Limits.{Limits}

@@ -3,13 +3,12 @@
 --     marked marks n           the first of the marks with number n
 --     Holds start lengths position r    r is the interval in which a position lies, if there is one
 --     Located drawing n r         r is where mark n stands; else it is refused by 8
-use Rattle.std.specs.Prelude.{◌≡◌, ℕ, suc, ◌+◌, ◌-◌, ◌<◌, ◌≤◌, cond, List, [], ◌∷◌, map, length, Some, None, Ok, Err, Option, Result, ◌==◌}
+use Rattle.std.specs.Prelude.{◌≡◌, ℕ, ◌-◌, ◌<◌, ◌≤◌, cond, List, [], ◌∷◌, length, Some, None, Ok, Err, Option, Result, ◌==◌}
 use Rattle.codes.specs.declared.refusals.Refusal.{Refusal}
 use Rattle.codes.specs.Refusals.{notice}
 use Rattle.rules.specs.declared.lines.Line.{Line}
-use Rattle.rules.specs.declared.lines.Interval.{Interval}
 use Rattle.rules.specs.declared.lines.StopMark.{StopMark}
-use Rattle.rules.specs.Tracks.{Track, Mark, Stands, moved_on, begin_of, end_of}
+use Rattle.rules.specs.Tracks.{Track, Mark, moved_on}
 use Rattle.rows_drawn.specs.Drawings.{Drawing, drawing_of, track_drawn, lengths_of}
 use Rattle.rows_drawn.specs.declared.targets.Held.{Held}
 use Rattle.rows_drawn.specs.declared.targets.Target.{Target}

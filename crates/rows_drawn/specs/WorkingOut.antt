@@ -6,7 +6,7 @@
 --     Settled .. r after      the row was found and copied, or no row is lawful
 --     Worked .. row           the row is the highest lawful one, and its stop ground and letter are told
 --     Unworked .. why         why is the first refusal that is due
-use Rattle.std.specs.Prelude.{◌≡◌, ℕ, ◌-◌, ◌<◌, ◌≤◌, cond, ◌↔◌, List, [], length, Some, None, Option, ◌≢◌, nat_lt, slice_index}
+use Rattle.std.specs.Prelude.{◌≡◌, ℕ, ◌-◌, ◌<◌, ◌≤◌, cond, List, [], length, Some, None, Option, ◌≢◌, nat_lt, slice_index}
 use Rattle.codes.specs.declared.speeds.Speed.{Speed}
 use Rattle.codes.specs.declared.speeds.Code.{Code}
 use Rattle.codes.specs.declared.gradients.Class.{Class}

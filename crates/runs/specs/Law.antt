@@ -10,7 +10,7 @@
 --     Right E D sizes h call o   the answer o to the call is right, after this history
 --     LawfulAnswers ..          every answer of the list is right
 --     Law E D sizes start calls outcomes     so it is from a blank sheet on
-use Rattle.std.specs.Prelude.{◌≡◌, ℕ, ◌≤◌, min, Bool, true, false, cond, ◌⊎◌, List, [], ◌∷◌, ◌++◌, length, Some, None}
+use Rattle.std.specs.Prelude.{◌≡◌, ℕ, ◌≤◌, min, cond, ◌⊎◌, List, [], ◌∷◌, ◌++◌, length, Some, None}
 use Rattle.std.specs.List.{remove, ContainsAt, AllByRecursion}
 use Rattle.codes.specs.Speeds.{kmh}
 use Rattle.laws.specs.Books.{Emergencies, Services}

@@ -6,18 +6,13 @@
 --     Does E D sheet call outcome paces after         a call over the sheet answered outcome and left after
 --     Run E D sheet calls outcomes paces after        the calls, one after the other
 --     Paces are those that trains tell after each hearing and each rolling, in order.
-use Rattle.std.specs.Prelude.{◌≡◌, ℕ, ◌+◌, ◌-◌, Bool, true, false, List, [], ◌∷◌, ◌++◌, length, set, Some, None, Option, slice_set}
+use Rattle.std.specs.Prelude.{◌≡◌, ℕ, Bool, true, false, List, [], ◌∷◌, ◌++◌, length, Some, None, Option, slice_set}
 use Rattle.codes.specs.declared.refusals.Refusal.{Refusal}
 use Rattle.codes.specs.Refusals.{notice}
-use Rattle.codes.specs.declared.gradients.Class.{Class}
-use Rattle.codes.specs.declared.speeds.Speed.{Speed}
-use Rattle.ground.specs.declared.entries.Entry.{Entry}
-use Rattle.rules.specs.declared.lines.Interval.{Interval}
-use Rattle.rules.specs.declared.lines.StopMark.{StopMark}
 use Rattle.ground.specs.Tables.{closed_up}
 use Rattle.laws.specs.Books.{Emergencies, Services}
 use Rattle.rules.specs.Tracks.{Track}
-use Rattle.rows_drawn.specs.Drawings.{Drawing, track_drawn}
+use Rattle.rows_drawn.specs.Drawings.{track_drawn}
 use Rattle.rows_drawn.specs.Targets.{mark_of}
 use Rattle.rows_drawn.specs.WorkingOut.{Worked, Unworked}
 use Rattle.rows_drawn.specs.Examining.{Passed, Failed}
@@ -29,7 +24,7 @@ use Rattle.entering.specs.Entering as entered
 use Rattle.sheet.specs.Sheets.{Heading, Tables, Pass, Phase, drawing, closed, passed, running, Sheet, drawn, passed_row, in-phase}
 use Rattle.sheet.specs.Changes.{more_intervals, more_gradients, more_restrictions, more_marks, fewer_gradients, fewer_restrictions, with_intervals, with_gradients, with_restrictions, with_marks, with_row, row_written}
 use Rattle.sheet.specs.Faults.{strike_fault, close_fault, lent_fault, submit_fault, set_off_fault, step_fault}
-use Rattle.runs.specs.Orders.{lent_tables, Order, Call, Outcome, done, worked, at, left, refused, unworked, kept, not_taken, refusing}
+use Rattle.runs.specs.Orders.{lent_tables, Order, Call, Outcome, done, worked, at, left, refused, unworked, not_taken, refusing}
 use Rattle.runs.specs.Orders.Order.{enter_interval, enter_gradient, enter_restriction, enter_mark, strike_gradient, strike_restriction, close, reopen, work_out, submit, set_off, step, leave}
 
 -- open takes enter, strike and close; closed work out, submit and reopen; passed set off; running step; the last two take leave

@@ -4,7 +4,7 @@
 --                                       else the heading has grown and the table has the record written
 --     Closes, Works, Submitted, SetsOut, Stepped     closing, working out, submitting, setting off and stepping
 --     A call that takes its sheet by value hands it back with the refusal.
-use Rattle.std.specs.Prelude.{◌≡◌, ℕ, Bool, true, false, cond, List, [], ◌∷◌, length, is_ok, Some, None, Ok, Err, Option, Result}
+use Rattle.std.specs.Prelude.{◌≡◌, ℕ, Bool, true, false, cond, List, [], ◌∷◌, is_ok, Some, None, Ok, Err, Option, Result}
 use Rattle.codes.specs.declared.refusals.Refusal.{Refusal}
 use Rattle.codes.specs.declared.gradients.Class.{Class}
 use Rattle.codes.specs.declared.speeds.Speed.{Speed}
@@ -20,12 +20,12 @@ use Rattle.rows_drawn.specs.WorkingOut.{Worked, Unworked}
 use Rattle.rows_drawn.specs.Examining.{Passed, Failed}
 use Rattle.rules.specs.declared.lines.Interval.{Interval}
 use Rattle.trains.specs.Braking.{Numbers}
-use Rattle.driving.specs.Journeys.{Journey, stands, SetsOff, Moves}
+use Rattle.driving.specs.Journeys.{SetsOff, Moves}
 use Rattle.entering.specs.Faults.{ruled}
-use Rattle.sheet.specs.Sheets.{Heading, Tables, Pass, passed_row, blank_heading}
+use Rattle.sheet.specs.Sheets.{Heading, Tables, passed_row, blank_heading}
 use Rattle.sheet.specs.Changes.{row_written}
 use Rattle.sheet.specs.Faults.{start_fault}
-use Rattle.sheet.specs.States.{heading_of, open_heading, closed_heading, passed_heading, running_heading, pass_of, book_of, passed_of, train_of, journey_of, report_of}
+use Rattle.sheet.specs.States.{open_heading, passed_heading, running_heading, pass_of, book_of, passed_of, journey_of, report_of}
 use Rattle.sheet.specs.declared.open.OpenSheet.{OpenSheet}
 use Rattle.sheet.specs.declared.closed.ClosedSheet.{ClosedSheet}
 use Rattle.sheet.specs.declared.passed.PassedSheet.{PassedSheet}

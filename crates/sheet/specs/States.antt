@@ -5,7 +5,6 @@
 --     book_of sheet             the book that serves it
 --     journey_of numbers sheet  where the train is, what it was told last, and its five numbers
 --     report_of journey         where the train of the journey is, how fast, and whether it stands
-use Rattle.std.specs.Prelude.{ℕ}
 use Rattle.trains.specs.Braking.{Numbers}
 use Rattle.driving.specs.Journeys.{Journey, stands}
 use Rattle.rows_drawn.specs.Targets.{mark_of}

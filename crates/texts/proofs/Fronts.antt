@@ -1,8 +1,7 @@
 -- The front of a text, and the pieces that it is cut into. Assumes nothing.
-use Rattle.std.proofs.Common.{◌≡◌, ℕ, suc, ◌+◌, ◌<◌, ◌≤◌, Bool, true, false, cond, List, [], ◌∷◌, ◌++◌, length, get_or, take, drop, sym, refl, ap, ◌∙◌, subst, append-nil, arith, length-append, take-append-drop}
+use Rattle.std.proofs.Common.{◌≡◌, ℕ, ◌+◌, ◌<◌, ◌≤◌, Bool, true, false, cond, List, [], ◌∷◌, ◌++◌, length, get_or, take, drop, sym, refl, ap, ◌∙◌, append-nil, arith, length-append, take-append-drop}
 use Rattle.std.proofs.lemmas.List.{at_drop_more, at_drop_all}
-use Rattle.texts.specs.declared.cuts.Separator.TheVariants.{LineFeed}
-use Rattle.texts.specs.Cuts.{is_blank, separates, front, onto, pieces, filled, ended, words_in, lines_in}
+use Rattle.texts.specs.Cuts.{front, onto, pieces, filled, ended, words_in, lines_in}
 
 module _ (p : ℕ → Bool) where
   front_cons : (b : ℕ) (bs : List ℕ) → front p (b ∷ bs) ≡ cond (p b) [] (b ∷ front p bs)

@@ -1,9 +1,9 @@
 -- The number that digits write, place by place. Assumes nothing.
-use Rattle.std.proofs.Common.{◌≡◌, ℕ, ◌+◌, ◌-◌, ◌*◌, ◌<◌, ◌≤◌, Bool, true, false, cond, leb, List, [], ◌∷◌, length, get_or, drop, Some, None, sym, refl, ap, ◌∙◌, arith}
+use Rattle.std.proofs.Common.{◌≡◌, ℕ, ◌+◌, ◌-◌, ◌*◌, ◌<◌, ◌≤◌, Bool, true, false, cond, List, [], ◌∷◌, length, get_or, drop, Some, None, refl, ap, ◌∙◌, arith}
 use Rattle.std.specs.Char.{is_ascii_digit}
 use Rattle.std.proofs.lemmas.List.{at_drop_more, at_drop_all}
 use Rattle.std.proofs.lemmas.Bool.{le-leb, lt-leb}
-use Rattle.texts.specs.Numbers.{digits_after, held, numeral, upto}
+use Rattle.texts.specs.Numbers.{digits_after, held, upto}
 
 digits_cons : (n b : ℕ) (bs : List ℕ) → digits_after n (b ∷ bs) ≡ cond (is_ascii_digit b) (digits_after (10 * n + (b - 48)) bs) None
 unfolding digits_after

@@ -1,4 +1,4 @@
-use Rattle.std.proofs.Common.{◌≡◌, ◌-◌, [], ◌++◌, length, drop, vec_items, vec_len, refl, ap, arith}
+use Rattle.std.proofs.Common.{◌≡◌, ◌-◌, [], length, drop, vec_items, vec_len, refl, ap, arith}
 use Rattle.std.proofs.lemmas.List.{take_at}
 use Rattle.codes.specs.Refusals.{notice}
 use Rattle.runs.specs.Orders.{worked, unworked}

@@ -1,4 +1,4 @@
-use Rattle.std.proofs.Common.{◌≡◌, Ok, Err, refl, ap, ◌∙◌}
+use Rattle.std.proofs.Common.{Ok, Err, refl, ap}
 use Rattle.sheet.specs.States.{book_of}
 use Rattle.replay.specs.Meaning.{lent_of, five_tables}
 use Rattle.replay.specs.declared.calls.Action.TheVariants.{SetOff}

@@ -1,6 +1,6 @@
-use Rattle.std.proofs.Common.{◌≡◌, List, ◌++◌, length, vec_items, sym, refl, ap, ◌∙◌, subst, append_assoc, arith}
+use Rattle.std.proofs.Common.{◌++◌, length, vec_items, sym, refl, ap, ◌∙◌, append_assoc, arith}
 use Rattle.std.specs.Vec.Iter.{into_iter_items}
-use Rattle.replay.specs.Meaning.{five_tables, sheet_of}
+use Rattle.replay.specs.Meaning.{five_tables}
 use Rattle.runs.proofs.Determined.{determined}
 use Rattle.replay.proofs.Replays.{sofar_none, sofar_more, replayed}
 use Rattle.replay.proofs.replaying.replay.Goals as goal

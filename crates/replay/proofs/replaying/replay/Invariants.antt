@@ -1,6 +1,6 @@
-use Rattle.std.proofs.Common.{◌≡◌, ◌+◌, ◌≤◌, ◌++◌, map, length, vec_items, vec_len, vec_capacity}
+use Rattle.std.proofs.Common.{◌≡◌, ◌+◌, ◌≤◌, ◌++◌, length, vec_items, vec_len, vec_capacity}
 use Rattle.std.specs.Vec.Iter.{into_iter_items}
-use Rattle.replay.specs.Meaning.{call_of, outcome_of, five_tables, sheet_of, By}
+use Rattle.replay.specs.Meaning.{five_tables, sheet_of, By}
 use Rattle.replay.proofs.Replays.{Sofar}
 use Rattle.replay.proofs.replaying.replay.Given as goal
 

@@ -1,12 +1,9 @@
-use Rattle.std.proofs.Common.{◌≡◌, ℕ, List, [], ◌∷◌, sym, refl, ap, ◌∙◌, subst}
+use Rattle.std.proofs.Common.{[], ◌∷◌, sym, ◌∙◌, subst}
 use Rattle.std.proofs.lemmas.List.{length-map}
 use Rattle.std.proofs.lemmas.Bool.Decides.{not_from_Decides}
-use Rattle.codes.specs.Refusals.{notice}
-use Rattle.rules.specs.Rules.{rule_number}
 use Rattle.rows_drawn.specs.Drawings.{drawing_of}
 use Rattle.rows_drawn.specs.Targets.{track_of, mark_of}
 use Rattle.rows_drawn.specs.Passing.{read_code, codes_of}
-use Rattle.rows_drawn.specs.WorkingOut.{Asked}
 use Rattle.rows_drawn.specs.Examining.{Failed, absent, slow, size, strange, unlawful}
 use Rattle.rows_drawn.proofs.Looks.{lawful_from_known, breaks_from_known}
 use Rattle.rows_drawn.proofs.examining.examine.Goals as goal

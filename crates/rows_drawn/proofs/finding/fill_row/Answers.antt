@@ -1,10 +1,10 @@
-use Rattle.std.proofs.Common.{◌≡◌, ℕ, suc, ◌+◌, ◌-◌, ◌<◌, ◌≤◌, length, get_or, sym, refl, ap, ◌∙◌, subst, arith}
+use Rattle.std.proofs.Common.{◌≡◌, suc, ◌+◌, ◌-◌, ◌≤◌, length, get_or, sym, ap, ◌∙◌, subst, arith}
 use Rattle.std.proofs.lemmas.List.{get_or_past, length-map}
 use Rattle.codes.specs.declared.speeds.Code.TheVariants.{Stop}
 use Rattle.rules.specs.declared.lines.Interval.{Interval}
 use Rattle.rules.specs.Tracks.{end_of}
 use Rattle.rows_drawn.specs.Targets.{track_of, mark_of}
-use Rattle.rows_drawn.specs.Finding.{FoundFrom, HighestAt}
+use Rattle.rows_drawn.specs.Finding.{FoundFrom}
 use Rattle.rows_drawn.specs.Passing.{Stage, Five, read_code, codes_of}
 use Rattle.rows_drawn.specs.WorkingOut.{Spells}
 use Rattle.rows_drawn.proofs.Settles.{stage_none, found_none, found_more, spells_more, code_set, highest_from_five}

@@ -1,6 +1,4 @@
-use Rattle.std.proofs.Common.{◌≡◌, ℕ, ◌+◌, ◌-◌, ◌≤◌, length, get_or, sym, ap, ◌∙◌, arith}
-use Rattle.rules.specs.Tracks.{moved_on, begin_of, end_of}
-use Rattle.rows_drawn.specs.Drawings.{lengths_of}
+use Rattle.std.proofs.Common.{arith}
 use Rattle.rows_drawn.specs.Targets.{track_of}
 use Rattle.rows_drawn.proofs.Positions.{end_before, begin_back}
 use Rattle.rows_drawn.proofs.passing.begin_of.Goals as goal

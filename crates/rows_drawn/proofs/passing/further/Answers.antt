@@ -1,4 +1,4 @@
-use Rattle.std.proofs.Common.{◌≡◌, refl}
+use Rattle.std.proofs.Common.{refl}
 use Rattle.rows_drawn.proofs.Beside.{stage_further}
 use Rattle.rows_drawn.proofs.passing.further.Goals as goal
 

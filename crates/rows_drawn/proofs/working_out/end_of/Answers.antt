@@ -1,4 +1,4 @@
-use Rattle.std.proofs.Common.{◌≡◌, ℕ, suc, ◌+◌, ◌<◌, ◌≤◌, length, get_or, sym, ap, ◌∙◌, arith}
+use Rattle.std.proofs.Common.{◌≡◌, ◌+◌, ◌<◌, length, sym, ap, ◌∙◌, arith}
 use Rattle.rules.specs.Tracks.{moved_on}
 use Rattle.rows_drawn.specs.Drawings.{lengths_of}
 use Rattle.rules.proofs.Moved.{moved_none, moved_rises}

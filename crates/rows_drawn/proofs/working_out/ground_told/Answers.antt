@@ -1,9 +1,9 @@
-use Rattle.std.proofs.Common.{◌≡◌, ℕ, ◌-◌, ◌≤◌, length, sym, ap, ◌∙◌, arith}
+use Rattle.std.proofs.Common.{◌≡◌, ◌-◌, ap, ◌∙◌, arith}
 use Rattle.std.proofs.lemmas.List.{length-map}
 use Rattle.ground.specs.Ground.{stretch_value}
 use Rattle.ground.specs.Kinds.{steepness}
 use Rattle.rules.specs.declared.lines.Interval.{Interval}
-use Rattle.rules.specs.Tracks.{moved_on, begin_of, end_of}
+use Rattle.rules.specs.Tracks.{begin_of}
 use Rattle.rows_drawn.specs.Drawings.{lengths_of}
 use Rattle.rows_drawn.specs.Targets.{track_of, mark_of}
 use Rattle.rows_drawn.specs.WorkingOut.{letter_of}

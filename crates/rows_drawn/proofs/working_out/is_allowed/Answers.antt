@@ -1,4 +1,3 @@
-use Rattle.std.proofs.Common.{◌≡◌}
 use Rattle.codes.specs.declared.speeds.Code.TheVariants.{Go}
 use Rattle.rows_drawn.specs.Targets.{track_of, mark_of}
 use Rattle.rows_drawn.proofs.Settles.{allowed_decided}

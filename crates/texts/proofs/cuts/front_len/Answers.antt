@@ -1,4 +1,4 @@
-use Rattle.std.proofs.Common.{◌≡◌, length, sym, refl, ap, ◌∙◌, arith}
+use Rattle.std.proofs.Common.{length, sym, ap, arith}
 use Rattle.texts.specs.Cuts.{separates}
 use Rattle.texts.proofs.Fronts.{front_stop, front_more, front_all}
 use Rattle.texts.proofs.cuts.front_len.Goals as goal

@@ -1,4 +1,4 @@
-use Rattle.std.proofs.Common.{◌≡◌, take, drop, sym, ap, ◌∙◌, arith}
+use Rattle.std.proofs.Common.{take, drop, ap, ◌∙◌, arith}
 use Rattle.texts.specs.Cuts.{separates}
 use Rattle.texts.proofs.Fronts.{take_front, front_within}
 use Rattle.texts.proofs.cuts.split_front.Goals as goal

@@ -1,4 +1,4 @@
-use Rattle.std.proofs.Common.{◌≡◌, sym, ap, ◌∙◌, arith, true-eqb}
+use Rattle.std.proofs.Common.{sym, ◌∙◌, arith, true-eqb}
 use Rattle.std.proofs.lemmas.List.{take_rest, drop_all}
 use Rattle.texts.proofs.cuts.without_first.Goals as goal
 

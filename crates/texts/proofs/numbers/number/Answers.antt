@@ -1,4 +1,4 @@
-use Rattle.std.proofs.Common.{◌≡◌, sym, refl, ap, ◌∙◌, arith, rules, false-eqb}
+use Rattle.std.proofs.Common.{sym, ap, ◌∙◌, arith, false-eqb}
 use Rattle.texts.specs.Numbers.{held}
 use Rattle.texts.proofs.Values.{held_above, held_within, upto_digits, digits_more, digits_stop, digits_all}
 use Rattle.texts.proofs.numbers.number.Goals as goal

@@ -1,4 +1,4 @@
-use Rattle.std.proofs.Common.{◌≡◌, ◌<◌, ◌≤◌, length, drop}
+use Rattle.std.proofs.Common.{◌≡◌, ◌≤◌, drop}
 use Rattle.texts.specs.Numbers.{held, digits_after, upto}
 use Rattle.texts.proofs.numbers.number.Given as goal
 

@@ -1,4 +1,4 @@
-use Rattle.std.proofs.Common.{◌≡◌, ◌∷◌, drop, sym, ap, ◌∙◌}
+use Rattle.std.proofs.Common.{◌∷◌, drop, sym, ap, ◌∙◌}
 use Rattle.texts.specs.declared.cuts.Separator.TheVariants.{LineFeed}
 use Rattle.texts.specs.Cuts.{separates, lines_in}
 use Rattle.texts.proofs.Fronts.{ended_front}

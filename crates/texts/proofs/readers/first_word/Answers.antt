@@ -1,4 +1,4 @@
-use Rattle.std.proofs.Common.{◌≡◌, ◌∷◌, length, drop, sym, ap, ◌∙◌, arith}
+use Rattle.std.proofs.Common.{◌∷◌, length, drop, sym, ap, ◌∙◌, arith}
 use Rattle.texts.specs.Cuts.{is_blank, words_in}
 use Rattle.texts.proofs.Fronts.{filled_front, empty_front, words_none}
 use Rattle.texts.proofs.readers.first_word.Goals as goal

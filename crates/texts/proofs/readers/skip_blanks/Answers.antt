@@ -1,4 +1,4 @@
-use Rattle.std.proofs.Common.{◌≡◌, length, sym, refl, ap, ◌∙◌, arith, length-drop, true-eqb, false-eqb}
+use Rattle.std.proofs.Common.{length, sym, refl, ap, ◌∙◌, arith, length-drop, true-eqb, false-eqb}
 use Rattle.texts.specs.Cuts.{is_blank, words_in}
 use Rattle.texts.proofs.Fronts.{filled_skip}
 use Rattle.texts.proofs.readers.skip_blanks.Goals as goal

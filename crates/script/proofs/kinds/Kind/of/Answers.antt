@@ -1,4 +1,4 @@
-use Rattle.std.proofs.Common.{◌≡◌, sym, ◌∙◌, arith}
+use Rattle.std.proofs.Common.{sym, ◌∙◌, arith}
 use Rattle.script.specs.declared.kinds.Kind.TheVariants.{Start}
 use Rattle.script.specs.Kinds.{kinds}
 use Rattle.script.proofs.Spellings.{spelt_here, spelt_more, spelt_all}

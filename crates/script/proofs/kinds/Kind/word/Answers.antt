@@ -1,4 +1,4 @@
-use Rattle.std.proofs.Common.{◌≡◌, sym, ap}
+use Rattle.std.proofs.Common.{sym, ap}
 use Rattle.script.specs.Kinds.{spelling}
 use Rattle.script.proofs.kinds.Kind.word.Goals as goal
 

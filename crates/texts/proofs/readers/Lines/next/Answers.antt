@@ -1,5 +1,5 @@
 -- An empty text has no lines.
-use Rattle.std.proofs.Common.{◌≡◌, true-eqb}
+use Rattle.std.proofs.Common.{true-eqb}
 use Rattle.texts.proofs.Fronts.{lines_none}
 use Rattle.texts.proofs.readers.Lines.next.Goals as goal
 

@@ -1,4 +1,4 @@
-use Rattle.std.proofs.Common.{◌≡◌, ℕ, Bool, true, false, cond, ◌&&◌, List, [], refl, rules}
+use Rattle.std.proofs.Common.{◌≡◌, ℕ, Bool, true, false, cond, ◌&&◌, List, [], refl}
 use Rattle.codes.specs.Refusals.{Told, gives, refuses}
 use Rattle.trains.proofs.late.LateTrain.is_due_at.Goals as goal
 
