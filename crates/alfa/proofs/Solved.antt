@@ -108,10 +108,10 @@ module _ (f : ℤ) where
 -- ---- any line, whatever its sheet, its approach, its row or its faldtal
 
 solved_by_metres : (x : Example) → Holds (solve (stretch_value steepness) x)
-solved_by_metres (Highest sheet approach row letter place) = worked sheet approach
+solved_by_metres (Highest sheet approach _ _ _) = worked sheet approach
 solved_by_metres (NoRow sheet approach) = worked sheet approach
-solved_by_metres (Passes sheet approach row) = judged sheet approach (four row) refl
-solved_by_metres (Breaks sheet approach row interval rule) = judged sheet approach (four row) refl
+solved_by_metres (Passes sheet approach asked) = judged sheet approach (four asked) refl
+solved_by_metres (Breaks sheet approach asked interval rule) = judged sheet approach (four asked) refl
 solved_by_metres (OfClass f k) = classified f
 solved_by_metres (NoFaldtal f) = classified f
 

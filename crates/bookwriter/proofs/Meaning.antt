@@ -15,9 +15,9 @@ use Rattle.bookrecords.proofs.Unique.{same_book}
 use Rattle.bookwriter.specs.Writing.{stated, bytes_of, file_of, asked, row, emergencies_of, services_of, Alone}
 use Rattle.bookwriter.proofs.Joins.{of_class}
 
-pub in-writing-order : flat_map of_class classes ≡ questions
+pub in_writing_order : flat_map of_class classes ≡ questions
 unfolding questions asked row emergencies_of services_of
-in-writing-order = refl
+in_writing_order = refl
 
 -- ---- each question is stated once
 
@@ -27,7 +27,7 @@ module _ (E : Emergencies) (D : Services) where
   file_size = refl
 
   pub classes_size : length (bytes_of E D (flat_map of_class classes)) ≡ 5247
-  classes_size = ap (λ qs. length (bytes_of E D qs)) in-writing-order ∙ file_size
+  classes_size = ap (λ qs. length (bytes_of E D qs)) in_writing_order ∙ file_size
 
   pub classes_room : (before : List ℕ) → length before ≡ 5247 → 0 + length (bytes_of E D (flat_map of_class classes)) ≤ length before
   classes_room before full = let size = classes_size in omega arith

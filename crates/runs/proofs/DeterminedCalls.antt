@@ -7,7 +7,7 @@ use Rattle.laws.specs.Books.{Emergencies, Services}
 use Rattle.rows_drawn.specs.Drawings.{Drawing}
 use Rattle.trains.specs.Braking.{Numbers}
 use Rattle.driving.specs.Journeys.{Journey}
-use Rattle.sheet.specs.Sheets.{Pass, Phase, drawing, closed, passed, running, Sheet, drawn, passed_row, in-phase}
+use Rattle.sheet.specs.Sheets.{Pass, Phase, drawing, closed, passed, running, Sheet, drawn, passed_row, in_phase}
 use Rattle.runs.specs.Orders.{Order, Call, Outcome, refused, unworked}
 use Rattle.runs.specs.Orders.Order.{enter_interval, enter_gradient, enter_restriction, enter_mark, strike_gradient, strike_restriction, close, reopen, work_out, submit, set_off, step, leave}
 use Rattle.runs.specs.Runs.{takes, fault, track_on, WorksOut, works, works_not, Submits, passes, fails, told_of, Departs, Steps, stays, moves, Leaves, DepartsIn, StepsIn, LeavesIn, Performs, Ruled, Taken, Does}
@@ -68,7 +68,7 @@ module _ (E : Emergencies) (D : Services) (sheet : Sheet) where
   departs_once : (pass : Pass) (train : Numbers) → Once (Departs E sheet pass train)
   departs_once pass train o o' told told' later later' t t' one other e =
       let (journey, rest) = sets_off_single (track_on sheet) pass.mark E (passed_row pass sheet.tables.row) train one.journey other.journey told told' later later' one.sets_off other.sets_off e in
-      (one.tells ∙ ap told_of journey ∙ sym other.tells, one.runs ∙ ap (λ j. in-phase (running pass j) sheet) journey ∙ sym other.runs, rest)
+      (one.tells ∙ ap told_of journey ∙ sym other.tells, one.runs ∙ ap (λ j. in_phase (running pass j) sheet) journey ∙ sym other.runs, rest)
 
   steps_once : (pass : Pass) (journey : Journey) → Once (Steps E sheet pass journey)
   steps_once pass journey o o' _ _ later later' t t' (stays still tells is) (stays still' tells' is') e = (tells ∙ sym tells', is ∙ sym is', e)
@@ -76,11 +76,11 @@ module _ (E : Emergencies) (D : Services) (sheet : Sheet) where
   steps_once pass journey o o' _ _ later later' t t' (moves next goes moved tells is) (stays still tells' is') e = absurd (both_ways _ goes still)
   steps_once pass journey o o' _ _ later later' t t' (moves next goes moved tells is) (moves next' goes' moved' tells' is') e =
       let (same, rest) = moves_single (track_on sheet) pass.mark E (passed_row pass sheet.tables.row) journey next next' _ _ later later' moved moved' e in
-      (tells ∙ ap told_of same ∙ sym tells', is ∙ ap (λ j. in-phase (running pass j) sheet) same ∙ sym is', rest)
+      (tells ∙ ap told_of same ∙ sym tells', is ∙ ap (λ j. in_phase (running pass j) sheet) same ∙ sym is', rest)
 
   leaves_once : (tells : Outcome) → Once (Leaves sheet tells)
   leaves_once tells o o' told told' later later' t t' one other e =
-      quiet_once tells (in-phase closed sheet) o o' told told' later later' t t' (one.told, one.none, one.closes) (other.told, other.none, other.closes) e
+      quiet_once tells (in_phase closed sheet) o o' told told' later later' t t' (one.told, one.none, one.closes) (other.told, other.none, other.closes) e
 
   -- ---- by the phase, the refusal and the state
 

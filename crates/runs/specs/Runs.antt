@@ -21,7 +21,7 @@ use Rattle.trains.specs.Braking.{Numbers}
 use Rattle.driving.specs.Journeys.{Journey, stands, SetsOff, Moves}
 use Rattle.entering.specs.Entering.{interval_of, gradient_of, restriction_of, interval_fault, gradient_fault, restriction_fault, mark_fault}
 use Rattle.entering.specs.Entering as entered
-use Rattle.sheet.specs.Sheets.{Heading, Tables, Pass, Phase, drawing, closed, passed, running, Sheet, drawn, passed_row, in-phase}
+use Rattle.sheet.specs.Sheets.{Heading, Tables, Pass, Phase, drawing, closed, passed, running, Sheet, drawn, passed_row, in_phase}
 use Rattle.sheet.specs.Changes.{more_intervals, more_gradients, more_restrictions, more_marks, fewer_gradients, fewer_restrictions, with_intervals, with_gradients, with_restrictions, with_marks, with_row, row_written}
 use Rattle.sheet.specs.Faults.{strike_fault, close_fault, lent_fault, submit_fault, set_off_fault, step_fault}
 use Rattle.runs.specs.Orders.{lent_tables, Order, Call, Outcome, done, worked, at, left, refused, unworked, not_taken, refusing}
@@ -171,19 +171,19 @@ pub record Departs (E : Emergencies) (sheet : Sheet) (pass : Pass) (train : Numb
   pub journey : Journey
   pub sets_off : SetsOff (track_on sheet) pass.mark E (passed_row pass sheet.tables.row) train journey paces
   pub tells : outcome ≡ told_of journey
-  pub runs : after ≡ in-phase (running pass journey) sheet
+  pub runs : after ≡ in_phase (running pass journey) sheet
 
 pub data Steps (E : Emergencies) (sheet : Sheet) (pass : Pass) (journey : Journey) (outcome : Outcome) : List ℕ → Sheet → Type 0 where
   stays : {after : Sheet} → stands journey ≡ true → outcome ≡ told_of journey → after ≡ sheet → Steps E sheet pass journey outcome [] after
   moves : {after : Sheet} {paces : List ℕ} (next : Journey) → stands journey ≡ false
       → Moves (track_on sheet) pass.mark E (passed_row pass sheet.tables.row) journey next paces
-      → outcome ≡ told_of next → after ≡ in-phase (running pass next) sheet → Steps E sheet pass journey outcome paces after
+      → outcome ≡ told_of next → after ≡ in_phase (running pass next) sheet → Steps E sheet pass journey outcome paces after
 
 -- a running sheet hands the train back
 pub record Leaves (sheet : Sheet) (tells : Outcome) (outcome : Outcome) (paces : List ℕ) (after : Sheet) : Type 0 where
   pub told : outcome ≡ tells
   pub none : paces ≡ []
-  pub closes : after ≡ in-phase closed sheet
+  pub closes : after ≡ in_phase closed sheet
 
 -- ---- the orders, by the phase that takes them
 module _ (E : Emergencies) (D : Services) (sheet : Sheet) where

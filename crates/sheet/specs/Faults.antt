@@ -36,12 +36,12 @@ abbrev pub strike_fault : {X : Type 0} → List X → ℕ → ℕ → Option Ref
 strike_fault table count place = first (short table count) refusal.Size (first (nat_le count place) refusal.Absent None)
 
 -- a position behind the start and not behind the end of the last interval lies in an interval
-abbrev pub in-interval : ℕ → List ℕ → ℕ → Bool
-in-interval start lengths position = nat_lt start position && nat_le position (moved_on start lengths (length lengths))
+abbrev pub in_interval : ℕ → List ℕ → ℕ → Bool
+in_interval start lengths position = nat_lt start position && nat_le position (moved_on start lengths (length lengths))
 
 abbrev pub all_marks_stand : ℕ → List ℕ → List StopMark → Bool
 all_marks_stand start lengths [] = true
-all_marks_stand start lengths (mark ∷ marks) = in-interval start lengths mark.position && all_marks_stand start lengths marks
+all_marks_stand start lengths (mark ∷ marks) = in_interval start lengths mark.position && all_marks_stand start lengths marks
 
 -- no interval is in use, or a mark in use stands in none
 abbrev pub unready : ℕ → List Interval → List StopMark → Bool

@@ -68,5 +68,5 @@ blank_heading start = record { start = start; intervals = 0; gradients = 0; rest
 abbrev pub blank : ℕ → Tables → Sheet
 blank start tables = record { heading = blank_heading start; tables = tables; phase = drawing }
 
-abbrev pub in-phase : Phase → Sheet → Sheet
-in-phase phase sheet = record { heading = sheet.heading; tables = sheet.tables; phase = phase }
+abbrev pub in_phase : Phase → Sheet → Sheet
+in_phase phase sheet = record { heading = sheet.heading; tables = sheet.tables; phase = phase }

@@ -4,7 +4,7 @@ use Rattle.codes.specs.declared.gradients.Class.TheVariants.{C1}
 use Rattle.codes.specs.Gradients.{classes}
 use Rattle.bookwriter.specs.Writing.{bytes_of}
 use Rattle.bookwriter.proofs.Joins.{of_class, class_room, class_wrote, wrote_whole, sofar_none, sofar_room, sofar_more, sofar_all}
-use Rattle.bookwriter.proofs.Meaning.{in-writing-order, classes_size, classes_room}
+use Rattle.bookwriter.proofs.Meaning.{in_writing_order, classes_size, classes_room}
 use Rattle.bookwriter.proofs.writing.write_classes.Goals as goal
 
 pub loop-class-init : goal.loop-class-init
@@ -25,4 +25,4 @@ returns g c =
     let E = g.B.BrakingBook.emergencies c.args.book.now in
     let D = g.B.BrakingBook.services c.args.book.now in
     wrote_whole c.args.buffer.now (bytes_of E D (flat_map of_class classes)) (classes_size E D ∙ sym c.requires) (sofar_all c.loop-class.invariant c.loop-class-test.false)
-    ∙ ap (bytes_of E D) in-writing-order
+    ∙ ap (bytes_of E D) in_writing_order
