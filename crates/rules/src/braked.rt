@@ -57,6 +57,7 @@ pub fn highest_down<B: BrakingBook>(book: &B, class: Class, to: Code, metres: u6
 }
 
 // The highest code from which emergency braking stops a train within so many metres of the class.
+#[tactic(auto, using(crate::proofs::UpToTop::stop_up_to))]
 pub fn highest_emergency_stop<B: BrakingBook>(book: &B, class: Class, metres: u64) -> Code
     ensures { UpTo (λ c. Halts (λ v. B.BrakingBook.emergencies book.now class v Code.Stop) c metres) result }
 {

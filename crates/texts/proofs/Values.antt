@@ -38,3 +38,6 @@ digits_all n w i h = at_drop_all (digits_after n) w i h ∙ digits_nil n
 
 pub held_within : (limit n : ℕ) → n ≤ limit → held limit (Some n) ≡ Some n
 held_within limit n h = ap (λ t. cond t (Some n) None) (le-leb n limit h)
+
+-- what a word's digits come to, place by place
+pub ruleset digits = (upto_digits, digits_more, digits_stop, digits_all, held_above, held_within)

@@ -39,6 +39,7 @@ fn front_len(bytes: &[u8], separator: Separator) -> usize
 }
 
 // Cuts a text before its first separator, or at its end where there is none.
+#[tactic(auto, using(crate::proofs::Fronts::front_within, crate::proofs::Fronts::take_front))]
 pub fn split_front(bytes: &[u8], separator: Separator) -> (&[u8], &[u8])
     ensures front { result.0.now ≡ front (separates separator) bytes.now }
     ensures rest { result.1.now ≡ drop (length (front (separates separator) bytes.now)) bytes.now }

@@ -6,6 +6,7 @@ use super::cuts::without_first;
 
 // The number that a word of decimal digits writes, leading zeros or not; none where the word is empty, has another byte, or writes
 // a number above the limit.
+#[tactic(auto, using(crate::proofs::Values::digits))]
 pub fn number(word: &[u8], limit: u32) -> Option<u32>
     ensures value { result ≡ upto limit word.now }
     ensures bound { IfSome result (λ n. n ≤ limit) }

@@ -5,10 +5,10 @@ use Rattle.runs.proofs.Determined.{determined}
 use Rattle.replay.proofs.Replays.{sofar_none, sofar_more, replayed}
 use Rattle.replay.proofs.replaying.replay.Goals as goal
 
-pub returns-in-Err : goal.returns-in-Err
-returns-in-Err g c =
+pub returns-in-Err-clause-determined : goal.returns-in-Err-clause-determined
+returns-in-Err-clause-determined g c =
     let book = c.args.book.now in
-    record { replays = (c.in-Err.ensures, refl); determined = determined (g.B.BrakingBook.emergencies book) (g.B.BrakingBook.services book) }
+    determined (g.B.BrakingBook.emergencies book) (g.B.BrakingBook.services book)
 
 pub returns-in_default : goal.returns-in_default
 returns-in_default g c =
