@@ -10,7 +10,7 @@
 --     speed_of_kmh kmh                   the speed of so many km/h, where there is one
 --     interval_of, gradient_of, restriction_of, mark_of     the record that is entered
 --     room_fault table count limit later     the refusal for want of room, if one is due, else what comes later
---     interval-fault, gradient-fault, restriction-fault, mark-fault
+--     interval_fault, gradient_fault, restriction_fault, mark_fault
 --                                        the first refusal that is due, if any is
 --     FitInterval, FitGradient, FitRestriction, FitMark   what a record that was entered fulfils
 use Rattle.std.specs.Prelude.{ℕ, ◌+◌, ◌<◌, ◌≤◌, Bool, false, cond, not, ◌||◌, List, [], ◌∷◌, length, ℤ, pos, neg_ℤ, is_some, None, Option, ◌==◌, int_le, int_lt, nat_le, nat_lt}
@@ -80,11 +80,11 @@ out_of_range position danger = nat_lt last_position position || nat_lt danger po
 
 -- a record of the list has the number
 abbrev pub has_number : {X : Type 0} → (X → ℕ) → ℕ → List X → Bool
-has_number number_of_lem number [] = false
-has_number number_of_lem number (x ∷ xs) = number_of_lem x == number || has_number number_of_lem number xs
+has_number number_of number [] = false
+has_number number_of number (x ∷ xs) = number_of x == number || has_number number_of number xs
 
 abbrev pub numbered_already : {X : Type 0} → (X → ℕ) → ℕ → List X → ℕ → Bool
-numbered_already number_of_lem number table count = has_number number_of_lem number (contents table count)
+numbered_already number_of number table count = has_number number_of number (contents table count)
 
 -- ---- records
 -- the first class of the list whose edge f does not fall below, or class 11

@@ -1,7 +1,7 @@
 -- Which refusal of a call is due first, by the tables that the call is lent. Assumes nothing.
 --     start_fault start                   6 for a start that is not 1,000 to 100,000
 --     strike_fault table count place      10, 8 for a place that is not in use
---     close-fault heading intervals marks 10, 9 for a sheet without intervals or with a mark in none
+--     close_fault heading intervals marks 10, 9 for a sheet without intervals or with a mark in none
 --     lent_short heading tables           one of the four tables is lent under its count
 --     row_short row                       the row table has fewer than 64 bytes
 --     lent_fault, submit_fault            10 for tables so lent
