@@ -5,7 +5,7 @@ ghost use Rattle.codes.specs.Gradients.{number, class_of, edge, Classed};
 use super::refusals::Refusal;
 
 // How steep the ground is; class 11 is the steepest.
-#[derive(Clone, Copy, PartialEq, Eq)]
+#[derive(Clone, Copy, Debug, PartialEq, Eq, PartialOrd, Ord)]
 pub enum Class {
     C1 = 1,
     C2 = 2,
@@ -61,24 +61,17 @@ impl Class {
         if faldtal > 350 {
             return Err(Refusal::Grade);
         }
-        for class in Class::ALL {
-            if class.reaches(faldtal) {
-                return Ok(class);
-            }
-        }
-        Err(Refusal::Grade)
+        Class::ALL
+            .into_iter()
+            .find(|class| class.reaches(faldtal))
+            .ok_or(Refusal::Grade)
     }
 
     // The class of a number, or none where it is not 1 to 11.
     pub fn from_number(number: u8) -> Option<Class>
         ensures { result ≡ class_of number }
     {
-        for class in Class::ALL {
-            if class.number() == number {
-                return Some(class);
-            }
-        }
-        None
+        Class::ALL.into_iter().find(|class| class.number() == number)
     }
 
     // The number of the class, 1 to 11.

@@ -3,7 +3,7 @@ ghost use Rattle.std.specs.Prelude.{◌≡◌};
 ghost use Rattle.codes.specs.Speeds.{kmh, byte, lower, speed_of, code_of};
 
 // A speed in km/h.
-#[derive(Clone, Copy, PartialEq, Eq)]
+#[derive(Clone, Copy, Debug, PartialEq, Eq, PartialOrd, Ord)]
 pub enum Speed {
     V30 = 30,
     V40 = 40,
@@ -17,7 +17,7 @@ pub enum Speed {
 }
 
 // What an interval's line conductor carries.
-#[derive(Clone, Copy, PartialEq, Eq)]
+#[derive(Clone, Copy, Debug, PartialEq, Eq, PartialOrd, Ord)]
 pub enum Code {
     Stop,
     Go(Speed),
@@ -41,12 +41,7 @@ impl Speed {
     pub fn from_kmh(kmh: u8) -> Option<Speed>
         ensures { result ≡ speed_of kmh }
     {
-        for speed in Speed::ALL {
-            if speed.kmh() == kmh {
-                return Some(speed);
-            }
-        }
-        None
+        Speed::ALL.into_iter().find(|speed| speed.kmh() == kmh)
     }
 
     // The speed in km/h.
@@ -99,6 +94,6 @@ impl Code {
     pub fn is_below(self, other: Code) -> bool
         ensures { result ≡ lower self other }
     {
-        self.byte() < other.byte()
+        self < other
     }
 }

@@ -10,8 +10,8 @@ use Rattle.codes.specs.Speeds.{byte}
 use Rattle.ground.specs.declared.entries.Entry.{Entry}
 use Rattle.rules.specs.declared.lines.Interval.{Interval}
 use Rattle.rules.specs.Tracks.{Track, Mark, moved_on, end_of}
-use Rattle.rows_drawn.specs.Drawings.{lengths_of}
-use Rattle.rows_drawn.specs.Passing.{codes_of}
+use Rattle.rows.specs.Drawings.{lengths_of}
+use Rattle.rows.specs.Passing.{codes_of}
 use Rattle.driving.specs.Journeys.{Differs}
 use Rattle.driving.specs.Driving.{track_over, code_in, is_told}
 use Rattle.driving.proofs.Decided.{same_byte}

@@ -20,8 +20,8 @@ use Rattle.laws.specs.Books.{Emergencies}
 use Rattle.rules.specs.declared.lines.Interval.{Interval}
 use Rattle.rules.specs.Tracks.{Track, Mark}
 use Rattle.rules.specs.Rules.{train_length}
-use Rattle.rows_drawn.specs.Drawings.{lengths_of}
-use Rattle.rows_drawn.specs.Passing.{codes_of}
+use Rattle.rows.specs.Drawings.{lengths_of}
+use Rattle.rows.specs.Passing.{codes_of}
 use Rattle.trains.specs.Braking.{Numbers}
 use Rattle.driving.specs.declared.heads.Head.{Head}
 use Rattle.driving.specs.Journeys.{Journey, Differs, SetsOff, Moves}

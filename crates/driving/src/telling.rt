@@ -4,8 +4,8 @@ ghost use Rattle.codes.specs.declared.gradients.Class.{Class};
 ghost use Rattle.codes.specs.declared.speeds.Speed.{Speed};
 ghost use Rattle.ground.specs.declared.entries.Entry.{Entry};
 ghost use Rattle.rules.specs.Tracks.{Mark};
-ghost use Rattle.rows_drawn.specs.Drawings.{lengths_of};
-ghost use Rattle.rows_drawn.specs.Passing.{read_code, codes_of};
+ghost use Rattle.rows.specs.Drawings.{lengths_of};
+ghost use Rattle.rows.specs.Passing.{read_code, codes_of};
 ghost use Rattle.driving.specs.Driving.{track_over, code_in, is_told, Due};
 
 use codes::Code;

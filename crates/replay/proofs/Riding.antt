@@ -10,8 +10,8 @@ use Rattle.ground.specs.Tables.{contents}
 use Rattle.laws.specs.Books.{Emergencies, Services}
 use Rattle.rules.specs.declared.lines.Interval.{Interval}
 use Rattle.rules.specs.Tracks.{Track}
-use Rattle.rows_drawn.specs.Drawings.{lengths_of}
-use Rattle.rows_drawn.specs.Passing.{codes_of}
+use Rattle.rows.specs.Drawings.{lengths_of}
+use Rattle.rows.specs.Passing.{codes_of}
 use Rattle.trains.specs.Braking.{Numbers}
 use Rattle.driving.specs.Journeys.{Journey, stands, SetsOff, Moves}
 use Rattle.entering.specs.Entering.{short}

@@ -8,11 +8,11 @@ use Rattle.ground.specs.Tables.{contents}
 use Rattle.laws.specs.Books.{Emergencies, Services}
 use Rattle.rules.specs.declared.lines.Interval.{Interval}
 use Rattle.rules.specs.Rules.{Lawful}
-use Rattle.rows_drawn.specs.Drawings.{Drawing, lengths_of, track_drawn}
-use Rattle.rows_drawn.specs.Targets.{mark_of}
-use Rattle.rows_drawn.specs.Passing.{codes_of}
-use Rattle.rows_drawn.specs.WorkingOut.{Asked}
-use Rattle.rows_drawn.specs.Examining.{Passed, Failed}
+use Rattle.rows.specs.Drawings.{Drawing, lengths_of, track_drawn}
+use Rattle.rows.specs.Targets.{mark_of}
+use Rattle.rows.specs.Passing.{codes_of}
+use Rattle.rows.specs.WorkingOut.{Asked}
+use Rattle.rows.specs.Examining.{Passed, Failed}
 use Rattle.entering.specs.Faults.{first}
 use Rattle.sheet.specs.Sheets.{Tables, Pass, Sheet, drawn, closed, passed}
 use Rattle.sheet.specs.Changes.{with_row}

@@ -4,9 +4,9 @@ use Rattle.codes.specs.declared.refusals.Refusal.{Refusal}
 use Rattle.codes.specs.declared.refusals.Refusal.TheVariants.{Size}
 use Rattle.codes.specs.Refusals.{notice}
 use Rattle.laws.specs.Books.{Emergencies, Services}
-use Rattle.rows_drawn.specs.declared.letters.StopLetter.{StopLetter}
-use Rattle.rows_drawn.specs.Drawings.{Drawing}
-use Rattle.rows_drawn.specs.WorkingOut.{Worked, Unworked}
+use Rattle.rows.specs.declared.letters.StopLetter.{StopLetter}
+use Rattle.rows.specs.Drawings.{Drawing}
+use Rattle.rows.specs.WorkingOut.{Worked, Unworked}
 use Rattle.entering.specs.Faults.{first}
 use Rattle.sheet.specs.Sheets.{Tables, Sheet, drawn, closed}
 use Rattle.sheet.specs.Changes.{with_row}

@@ -3,8 +3,8 @@
 --     Replays .. r after         so it is, or the start was refused by 6, or memory was wanting; then nothing has changed
 use Rattle.std.specs.Prelude.{◌≡◌, ℕ, List, map, Some, None, Ok, Err, vec_items, Result}
 use Rattle.laws.specs.Books.{Emergencies, Services}
-use Rattle.rows_drawn.specs.declared.failures.Failure.{Failure}
-use Rattle.rows_drawn.specs.declared.failures.Failure.TheVariants.{Refused, Memory}
+use Rattle.rows.specs.declared.failures.Failure.{Failure}
+use Rattle.rows.specs.declared.failures.Failure.TheVariants.{Refused, Memory}
 use Rattle.trains.specs.Braking.{Numbers}
 use Rattle.sheet.specs.Sheets.{Tables, blank}
 use Rattle.sheet.specs.Faults.{start_fault}

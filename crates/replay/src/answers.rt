@@ -1,6 +1,6 @@
 // What the calls of a list answer.
 use codes::Refusal;
-use rows_drawn::StopLetter;
+use rows::StopLetter;
 use sheet::Report;
 
 // The answer to a call. What came with a call is handed back: the bytes of a work-out, and a train that was not set off or has been

@@ -11,7 +11,7 @@ use super::replayed::Replayed;
 use books::BrakingBook;
 use codes::{Class, Speed};
 use ground::Entry;
-use rows_drawn::Failure;
+use rows::Failure;
 use rules::{Interval, StopMark};
 use sheet::OpenSheet;
 use std::alloc::Global;

@@ -13,14 +13,16 @@ use Rattle.rules.specs.Rules.{train_length, Down, Next, Stops}
 use Rattle.rules.specs.Searching.{UpTo}
 use Rattle.rows.specs.declared.targets.Target.{Target}
 use Rattle.rows.specs.declared.passing.Pass.{Pass}
-use Rattle.rows.specs.Targets.{track_of, mark_of, lengths_of, HeldBy}
+use Rattle.rows.specs.Drawings.{lengths_of}
+use Rattle.rows.specs.Targets.{track_of, mark_of, HeldBy}
 use Rattle.rules.specs.declared.places.Limits.{Limits}
 use Rattle.rules.specs.Limits.{Caps}
 use Rattle.rows.specs.Finding.{Reached}
 use Rattle.rows.specs.Passing.{Stage, Joins, joined, kept}
 use Rattle.rows.proofs.Stopped.{stops_from_only, only_from_stops}
 use Rattle.rows.proofs.Grounds.{before_from_reached, not_before_from_reached, reached_joined, reached_kept}
-use Rattle.rows.proofs.Positions.{moved_more, begin_back}
+use Rattle.rules.proofs.Moved.{moved_more}
+use Rattle.rows.proofs.Positions.{begin_back}
 
 byte_within : (c : Code) → byte c ≤ 120
 byte_within c = grind arith

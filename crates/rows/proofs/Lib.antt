@@ -7,3 +7,7 @@ mod Settles
 mod Stopped
 mod Beside
 mod Looks
+pub mod Verdicts
+mod Lacks
+pub mod Single
+pub mod SingleRefusals

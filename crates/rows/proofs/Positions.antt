@@ -1,29 +1,10 @@
 -- Where intervals end, one after the other. Assumes nothing.
-use Rattle.std.proofs.Common.{◌≡◌, ℕ, zero, suc, ◌+◌, ◌-◌, ◌<◌, ◌≤◌, List, [], ◌∷◌, length, get_or, sym, refl, ap, ◌∙◌, subst, add-one, arith}
-use native.Mathlib.Decide.{dec_le}
+use Rattle.std.proofs.Common.{◌≡◌, ℕ, zero, suc, ◌+◌, ◌-◌, ◌<◌, ◌≤◌, List, length, get_or, sym, ap, ◌∙◌, add-one, arith}
 use Rattle.std.proofs.lemmas.List.{get_or-map}
 use Rattle.rules.specs.declared.lines.Interval.{Interval}
 use Rattle.rules.specs.Tracks.{Track, moved_on, begin_of, end_of}
-use Rattle.rows.specs.Targets.{lengths_of}
-
-pub moved_none : (a : ℕ) (xs : List ℕ) → moved_on a xs 0 ≡ a
-unfolding moved_on
-moved_none a xs = refl
-
-pub moved_more : (a : ℕ) (xs : List ℕ) (j : ℕ) → moved_on a xs (suc j) ≡ moved_on a xs j + get_or xs j 0
-unfolding moved_on
-moved_more a [] zero = omega arith
-moved_more a [] (suc j) = omega arith
-moved_more a (x ∷ xs) zero = refl
-moved_more a (x ∷ xs) (suc j) = moved_more (a + x) xs j
-
-pub moved_rises : (a : ℕ) (xs : List ℕ) (i j : ℕ) → i ≤ j → moved_on a xs i ≤ moved_on a xs j
-moved_rises a xs i zero l = let e : i ≡ 0 = omega arith in subst (λ n. moved_on a xs n ≤ moved_on a xs 0) (sym e) (omega arith)
-moved_rises a xs i (suc j) l =
-    elim (dec_le i j) [
-      | yes under ↦ let rest = moved_rises a xs i j under in let one = moved_more a xs j in omega arith
-      | no last ↦ let e : i ≡ suc j = omega arith in subst (λ n. moved_on a xs n ≤ moved_on a xs (suc j)) (sym e) (omega arith)
-    ]
+use Rattle.rules.proofs.Moved.{moved_more}
+use Rattle.rows.specs.Drawings.{lengths_of}
 
 pub length_at : (xs : List Interval) (i : ℕ) (d : Interval) → i < length xs → get_or (lengths_of xs) i 0 ≡ (get_or xs i d).length
 length_at xs i d l = get_or-map (λ (interval : Interval). interval.length) xs i d 0 l

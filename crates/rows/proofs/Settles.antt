@@ -6,6 +6,7 @@ use Rattle.std.proofs.lemmas.List.{length-map, length-set, map-set, get_or-set_s
 use Rattle.codes.specs.declared.speeds.Code.{Code}
 use Rattle.codes.specs.declared.speeds.Code.TheVariants.{Stop}
 use Rattle.codes.specs.Speeds.{byte, lower, code_of}
+use Rattle.codes.proofs.Numbered.{code_back}
 use Rattle.laws.specs.Books.{Emergencies, Services, Distances}
 use Rattle.rules.specs.declared.lines.Line.{Line}
 use Rattle.rules.specs.Tracks.{Track, Mark}
@@ -14,11 +15,11 @@ use Rattle.rules.specs.Searching.{UpTo}
 use Rattle.rows.specs.declared.targets.Target.{Target}
 use Rattle.rows.specs.declared.passing.Pass.{Pass}
 use Rattle.rows.specs.declared.passing.FiveCaps.{FiveCaps}
-use Rattle.rows.specs.Targets.{track_of, mark_of, lengths_of, HeldBy}
+use Rattle.rows.specs.Drawings.{lengths_of}
+use Rattle.rows.specs.Targets.{track_of, mark_of, HeldBy}
 use Rattle.rows.specs.Finding.{HighestAt, FoundFrom, Reached}
 use Rattle.rows.specs.Passing.{Stage, Five, WithinFive, read_code, codes_of}
 use Rattle.rows.specs.WorkingOut.{Spells}
-use Rattle.rows.proofs.Bytes.{code_back}
 use Rattle.rows.proofs.Grounds.{reached_none}
 use Rattle.rows.proofs.Beside.{stands}
 

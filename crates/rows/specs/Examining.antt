@@ -11,14 +11,14 @@ use Rattle.codes.specs.declared.refusals.Refusal.{Refusal}
 use Rattle.codes.specs.Speeds.{byte, speed_of}
 use Rattle.codes.specs.Refusals.{notice}
 use Rattle.laws.specs.Books.{Emergencies, Services}
-use Rattle.rules.specs.declared.lines.Line.{Line}
 use Rattle.rules.specs.Tracks.{Track, Mark}
 use Rattle.rules.specs.Rules.{Rule, touching, ahead, service, stopping, next, rule_number, Obeys, Allowed, code_at, Lawful}
 use Rattle.rules.specs.Rows.{Breaks}
 use Rattle.rows.specs.declared.targets.Target.{Target}
 use Rattle.rows.specs.declared.passing.FiveCaps.{FiveCaps}
 use Rattle.rows.specs.declared.breaks.Break.{Break}
-use Rattle.rows.specs.Targets.{track_of, mark_of, LocatedAt, Absent}
+use Rattle.rows.specs.Drawings.{Drawing, track_drawn}
+use Rattle.rows.specs.Targets.{mark_of, LocatedAt, Absent}
 use Rattle.rows.specs.Passing.{WithinFive, codes_of}
 use Rattle.rows.specs.WorkingOut.{Spells, Asked}
 
@@ -62,21 +62,21 @@ module _ (track : Track) (mark : Mark) (E : Emergencies) (D : Services) (approac
   Known j None = (i : ℕ) → j ≤ i → i ≤ mark.interval → AllowedAt i
   Known j (Some found) = BreaksFrom j found
 
-pub record Passed (line : Line) (number approach : ℕ) (E : Emergencies) (D : Services) (bytes : List ℕ) : Type 0 where
+pub record Passed (drawing : Drawing) (number approach : ℕ) (E : Emergencies) (D : Services) (bytes : List ℕ) : Type 0 where
   pub target : Target
   pub speed : Speed
-  pub asked : Asked line number approach target speed
+  pub asked : Asked drawing number approach target speed
   pub spelt : Spells 0 bytes
-  pub lawful : Lawful (track_of line) (mark_of target) E D speed (codes_of bytes)
+  pub lawful : Lawful (track_drawn drawing) (mark_of target) E D speed (codes_of bytes)
 
 -- 8 for the mark, 4 for the approach code, 10 for the size of the row, 11 for a byte that is no code, and 12 for the first break
-pub data Failed (line : Line) (mark_number approach : ℕ) (E : Emergencies) (D : Services) (bytes : List ℕ) : ℕ × List ℕ → Type 0 where
-  absent : Absent line mark_number → Failed line mark_number approach E D bytes (8, [])
-  slow : (target : Target) → LocatedAt line mark_number target → speed_of approach ≡ None → Failed line mark_number approach E D bytes (4, [])
-  size : (target : Target) (speed : Speed) → Asked line mark_number approach target speed → (length bytes ≢ target.held.interval) → Failed line mark_number approach E D bytes (10, [])
-  strange : (target : Target) (speed : Speed) → Asked line mark_number approach target speed → length bytes ≡ target.held.interval → (Spells 0 bytes → ⊥) → Failed line mark_number approach E D bytes (11, [])
-  unlawful : (target : Target) (speed : Speed) → Asked line mark_number approach target speed → length bytes ≡ target.held.interval → Spells 0 bytes → (j : ℕ) (rule : Rule) → Breaks (track_of line) (mark_of target) E D speed (codes_of bytes) j rule → Failed line mark_number approach E D bytes (12, j ∷ rule_number rule ∷ [])
+pub data Failed (drawing : Drawing) (mark_number approach : ℕ) (E : Emergencies) (D : Services) (bytes : List ℕ) : ℕ × List ℕ → Type 0 where
+  absent : Absent drawing mark_number → Failed drawing mark_number approach E D bytes (8, [])
+  slow : (target : Target) → LocatedAt drawing mark_number target → speed_of approach ≡ None → Failed drawing mark_number approach E D bytes (4, [])
+  size : (target : Target) (speed : Speed) → Asked drawing mark_number approach target speed → (length bytes ≢ target.held.interval) → Failed drawing mark_number approach E D bytes (10, [])
+  strange : (target : Target) (speed : Speed) → Asked drawing mark_number approach target speed → length bytes ≡ target.held.interval → (Spells 0 bytes → ⊥) → Failed drawing mark_number approach E D bytes (11, [])
+  unlawful : (target : Target) (speed : Speed) → Asked drawing mark_number approach target speed → length bytes ≡ target.held.interval → Spells 0 bytes → (j : ℕ) (rule : Rule) → Breaks (track_drawn drawing) (mark_of target) E D speed (codes_of bytes) j rule → Failed drawing mark_number approach E D bytes (12, j ∷ rule_number rule ∷ [])
 
-abbrev pub Examined : Line → ℕ → ℕ → Emergencies → Services → List ℕ → Result (Unit {0}) Refusal → Type 0
-Examined line mark approach E D bytes (Ok done) = Passed line mark approach E D bytes
-Examined line mark approach E D bytes (Err why) = Failed line mark approach E D bytes (notice why)
+abbrev pub Examined : Drawing → ℕ → ℕ → Emergencies → Services → List ℕ → Result (Unit {0}) Refusal → Type 0
+Examined drawing mark approach E D bytes (Ok done) = Passed drawing mark approach E D bytes
+Examined drawing mark approach E D bytes (Err why) = Failed drawing mark approach E D bytes (notice why)

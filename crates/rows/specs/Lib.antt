@@ -1,6 +1,7 @@
+pub mod Drawings
 pub mod Targets
 pub mod Finding
 pub mod Passing
 pub mod WorkingOut
-pub mod WorkedOut
 pub mod Examining
+pub mod WorkedOut

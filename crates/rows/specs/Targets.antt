@@ -2,27 +2,20 @@
 --     track_of line            the line as the rules see it
 --     marked marks n           the first of the marks with number n
 --     Holds start lengths position r    r is the interval in which a position lies, if there is one
---     Located line n r         r is where mark n stands; else it is refused by 8
-use Rattle.std.specs.Prelude.{◌≡◌, ℕ, ◌-◌, ◌<◌, ◌≤◌, cond, List, [], ◌∷◌, map, length, Some, None, Ok, Err, Option, Result, ◌==◌}
+--     Located drawing n r         r is where mark n stands; else it is refused by 8
+use Rattle.std.specs.Prelude.{◌≡◌, ℕ, ◌-◌, ◌<◌, ◌≤◌, cond, List, [], ◌∷◌, length, Some, None, Ok, Err, Option, Result, ◌==◌}
 use Rattle.codes.specs.declared.refusals.Refusal.{Refusal}
 use Rattle.codes.specs.Refusals.{notice}
 use Rattle.rules.specs.declared.lines.Line.{Line}
-use Rattle.rules.specs.declared.lines.Interval.{Interval}
 use Rattle.rules.specs.declared.lines.StopMark.{StopMark}
 use Rattle.rules.specs.Tracks.{Track, Mark, moved_on}
+use Rattle.rows.specs.Drawings.{Drawing, drawing_of, track_drawn, lengths_of}
 use Rattle.rows.specs.declared.targets.Held.{Held}
 use Rattle.rows.specs.declared.targets.Target.{Target}
 
-abbrev pub lengths_of : List Interval → List ℕ
-lengths_of intervals = map (λ (interval : Interval). interval.length) intervals
-
+-- the line that a caller lends, as the rules see it
 abbrev pub track_of : Line → Track
-track_of line = record {
-  start = line.start;
-  lengths = lengths_of line.intervals.now;
-  gradients = line.gradients.now;
-  restrictions = line.restrictions.now;
-}
+track_of line = track_drawn (drawing_of line)
 
 abbrev pub marked : List StopMark → ℕ → Option StopMark
 marked [] number = None
@@ -45,17 +38,17 @@ Holds start lengths position None = (h : ℕ) → 1 ≤ h → h ≤ length lengt
 abbrev pub mark_of : Target → Mark
 mark_of target = record { position = target.position; danger = target.danger; interval = target.held.interval }
 
-pub record LocatedAt (line : Line) (number : ℕ) (target : Target) : Type 0 where
+pub record LocatedAt (drawing : Drawing) (number : ℕ) (target : Target) : Type 0 where
   pub mark : StopMark
-  pub marks : marked line.marks.now number ≡ Some mark
+  pub marks : marked drawing.marks number ≡ Some mark
   pub position : target.position ≡ mark.position
   pub danger : target.danger ≡ mark.danger
-  pub held : HeldBy line.start (lengths_of line.intervals.now) target.position target.held
+  pub held : HeldBy drawing.start (lengths_of drawing.intervals) target.position target.held
 
 -- no mark has the number, or the mark stands in no interval
-abbrev pub Absent : Line → ℕ → Type 0
-Absent line number = (mark : StopMark) → marked line.marks.now number ≡ Some mark → Holds line.start (lengths_of line.intervals.now) mark.position None
+abbrev pub Absent : Drawing → ℕ → Type 0
+Absent drawing number = (mark : StopMark) → marked drawing.marks number ≡ Some mark → Holds drawing.start (lengths_of drawing.intervals) mark.position None
 
-abbrev pub Located : Line → ℕ → Result Target Refusal → Type 0
-Located line number (Ok target) = LocatedAt line number target
-Located line number (Err w) = (notice w ≡ (8, [])) × Absent line number
+abbrev pub Located : Drawing → ℕ → Result Target Refusal → Type 0
+Located drawing number (Ok target) = LocatedAt drawing number target
+Located drawing number (Err w) = (notice w ≡ (8, [])) × Absent drawing number

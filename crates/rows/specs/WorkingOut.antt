@@ -20,6 +20,7 @@ use Rattle.rules.specs.Rows.{Highest}
 use Rattle.rows.specs.declared.targets.Target.{Target}
 use Rattle.rows.specs.declared.letters.StopLetter.{StopLetter}
 use Rattle.rows.specs.declared.letters.StopLetter.TheVariants.{Sf, Sv}
+use Rattle.rows.specs.Drawings.{Drawing, track_drawn}
 use Rattle.rows.specs.Targets.{track_of, mark_of, LocatedAt, Absent}
 use Rattle.rows.specs.declared.passing.Pass.{Pass}
 use Rattle.rows.specs.Passing.{Stage, codes_of}
@@ -36,29 +37,29 @@ module _ (track : Track) (mark : Mark) (E : Emergencies) (D : Services) where
     pub first : (i : ℕ) → InGround track mark E D i → place ≤ i
 
 -- the ground's first interval, and the letter of the ground from a train's length before it to the mark
-pub record Grounded (line : Line) (target : Target) (E : Emergencies) (D : Services) (letter : StopLetter) (place : ℕ) : Type 0 where
-  pub first : FirstOfGround (track_of line) (mark_of target) E D place
-  pub tells : letter ≡ letter_of (class_over (track_of line) (begin_of (track_of line) place - train_length) target.position)
+pub record Grounded (drawing : Drawing) (target : Target) (E : Emergencies) (D : Services) (letter : StopLetter) (place : ℕ) : Type 0 where
+  pub first : FirstOfGround (track_drawn drawing) (mark_of target) E D place
+  pub tells : letter ≡ letter_of (class_over (track_drawn drawing) (begin_of (track_drawn drawing) place - train_length) target.position)
 
 -- the mark is found, and the approach code is a speed
-pub record Asked (line : Line) (number approach : ℕ) (target : Target) (speed : Speed) : Type 0 where
-  pub located : LocatedAt line number target
+pub record Asked (drawing : Drawing) (number approach : ℕ) (target : Target) (speed : Speed) : Type 0 where
+  pub located : LocatedAt drawing number target
   pub approaches : speed_of approach ≡ Some speed
 
-pub record Worked (line : Line) (number approach : ℕ) (E : Emergencies) (D : Services) (bytes : List ℕ) (letter : StopLetter) (place : ℕ) : Type 0 where
+pub record Worked (drawing : Drawing) (number approach : ℕ) (E : Emergencies) (D : Services) (bytes : List ℕ) (letter : StopLetter) (place : ℕ) : Type 0 where
   pub target : Target
   pub speed : Speed
-  pub asked : Asked line number approach target speed
+  pub asked : Asked drawing number approach target speed
   pub spelt : Spells 0 bytes
-  pub highest : Highest (track_of line) (mark_of target) E D speed (codes_of bytes)
-  pub ground : Grounded line target E D letter place
+  pub highest : Highest (track_drawn drawing) (mark_of target) E D speed (codes_of bytes)
+  pub ground : Grounded drawing target E D letter place
 
 -- 8 for the mark, 4 for the approach code, 10 for the size of the row, and 13 exactly where no row is lawful
-pub data Unworked (line : Line) (mark_number approach : ℕ) (E : Emergencies) (D : Services) (bytes : List ℕ) : ℕ × List ℕ → Type 0 where
-  absent : Absent line mark_number → Unworked line mark_number approach E D bytes (8, [])
-  slow : (target : Target) → LocatedAt line mark_number target → speed_of approach ≡ None → Unworked line mark_number approach E D bytes (4, [])
-  size : (target : Target) (speed : Speed) → Asked line mark_number approach target speed → (length bytes ≢ target.held.interval) → Unworked line mark_number approach E D bytes (10, [])
-  none : (target : Target) (speed : Speed) → Asked line mark_number approach target speed → length bytes ≡ target.held.interval → ((row : List Code) → Lawful (track_of line) (mark_of target) E D speed row → ⊥) → Unworked line mark_number approach E D bytes (13, [])
+pub data Unworked (drawing : Drawing) (mark_number approach : ℕ) (E : Emergencies) (D : Services) (bytes : List ℕ) : ℕ × List ℕ → Type 0 where
+  absent : Absent drawing mark_number → Unworked drawing mark_number approach E D bytes (8, [])
+  slow : (target : Target) → LocatedAt drawing mark_number target → speed_of approach ≡ None → Unworked drawing mark_number approach E D bytes (4, [])
+  size : (target : Target) (speed : Speed) → Asked drawing mark_number approach target speed → (length bytes ≢ target.held.interval) → Unworked drawing mark_number approach E D bytes (10, [])
+  none : (target : Target) (speed : Speed) → Asked drawing mark_number approach target speed → length bytes ≡ target.held.interval → ((row : List Code) → Lawful (track_drawn drawing) (mark_of target) E D speed row → ⊥) → Unworked drawing mark_number approach E D bytes (13, [])
 
 -- a row was found and copied, or no row is lawful and the bytes are as they were
 abbrev pub Settled : Line → Target → Emergencies → Services → Speed → List ℕ → Option Pass → List ℕ → Type 0

@@ -1,7 +1,9 @@
 // Examining a row of codes that was drawn up elsewhere.
-ghost use Rattle.std.specs.Prelude.{◌≡◌, ℕ, ◌+◌, ◌-◌, ◌<◌, ◌≤◌, length, Decides};
+ghost use Rattle.std.specs.Prelude.{◌≡◌, ℕ, ◌+◌, ◌-◌, ◌<◌, ◌≤◌, length, is_some, Decides};
+ghost use Rattle.codes.specs.Speeds.{code_of};
 ghost use Rattle.rules.specs.Rules.{code_at};
-ghost use Rattle.rows.specs.Targets.{track_of, mark_of, HeldBy, lengths_of};
+ghost use Rattle.rows.specs.Drawings.{drawing_of, lengths_of};
+ghost use Rattle.rows.specs.Targets.{track_of, mark_of, HeldBy};
 ghost use Rattle.rows.specs.Passing.{Stage, Five, codes_of, read_code};
 ghost use Rattle.rows.specs.WorkingOut.{Spells};
 ghost use Rattle.rows.specs.Examining.{FirstBroken, Looked, Known, Examined};
@@ -35,12 +37,19 @@ fn broken_rule(caps: &FiveCaps, code: Code) -> Option<u8>
     None
 }
 
+// Whether a byte is that of a code.
+fn is_code(byte: u8) -> bool
+    ensures { result ≡ is_some (code_of byte) }
+{
+    Code::from_byte(byte).is_some()
+}
+
 // Whether each byte of a row is that of a code.
 fn are_codes(row: &[u8]) -> bool
     ensures { Decides result (Spells 0 row.now) }
 {
     for byte in row {
-        if Code::from_byte(*byte).is_none() {
+        if !is_code(*byte) {
             return false;
         }
     }
@@ -101,7 +110,7 @@ pub fn examine<B: BrakingBook>(
     row: &[u8],
     book: &B,
 ) -> Result<(), Refusal>
-    ensures { Examined line.now mark approach (B.BrakingBook.emergencies book.now) (B.BrakingBook.services book.now) row.now result }
+    ensures { Examined (drawing_of line.now) mark approach (B.BrakingBook.emergencies book.now) (B.BrakingBook.services book.now) row.now result }
 {
     let target = match locate(line, mark) {
         Ok(target) => target,

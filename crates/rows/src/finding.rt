@@ -3,7 +3,8 @@ ghost use Rattle.std.specs.Prelude.{◌≡◌, ℕ, ◌+◌, ◌-◌, ◌^◌, �
 ghost use Rattle.codes.specs.Speeds.{byte};
 ghost use Rattle.rules.specs.Limits.{Within};
 ghost use Rattle.rules.specs.Searching.{UpTo};
-ghost use Rattle.rows.specs.Targets.{track_of, mark_of, HeldBy, lengths_of};
+ghost use Rattle.rows.specs.Drawings.{lengths_of};
+ghost use Rattle.rows.specs.Targets.{track_of, mark_of, HeldBy};
 ghost use Rattle.rows.specs.Finding.{FoundFrom};
 ghost use Rattle.rows.specs.Passing.{Stage, WithinFive, codes_of};
 ghost use Rattle.rows.specs.WorkingOut.{Spells};

@@ -16,5 +16,5 @@ pub use examining::examine;
 pub use failures::Failure;
 pub use letters::StopLetter;
 pub use passing::{FiveCaps, Pass};
-pub use targets::{Held, Target};
-pub use working_out::work_out;
+pub use targets::{Held, Target, locate};
+pub use working_out::{work_out, work_out_in};

@@ -3,7 +3,8 @@ ghost use Rattle.std.specs.Prelude.{◌≡◌, ℕ, ◌+◌, ◌-◌, ◌^◌, �
 ghost use Rattle.laws.specs.Books.{Emergencies, Services};
 ghost use Rattle.rules.specs.Tracks.{begin_of, end_of};
 ghost use Rattle.rules.specs.Limits.{Caps};
-ghost use Rattle.rows.specs.Targets.{track_of, mark_of, HeldBy, lengths_of};
+ghost use Rattle.rows.specs.Drawings.{lengths_of};
+ghost use Rattle.rows.specs.Targets.{track_of, mark_of, HeldBy};
 ghost use Rattle.rows.specs.Passing.{Stage, Five, OnlyStop, Joins};
 
 use super::targets::Target;
@@ -55,6 +56,14 @@ pub(super) fn started(target: &Target) -> Pass
     }
 }
 
+// Whether the stop ground begins right behind interval j: rule 5 asks nothing there.
+fn is_beside(first: usize, j: usize) -> bool
+    requires { j + 1 < 2 ^ 64 }
+    ensures { Decides result (first ≡ j + 1) }
+{
+    first == j + 1
+}
+
 // The highest code of interval j by each of the five rules.
 pub(super) fn caps_at<B: BrakingBook>(
     line: &Line<'_>,
@@ -76,7 +85,7 @@ pub(super) fn caps_at<B: BrakingBook>(
         danger: target.danger,
     };
     let four = limits_at(line, &place, book);
-    if pass.first == j + 1 {
+    if is_beside(pass.first, j) {
         return FiveCaps {
             four,
             next: Code::Go(Speed::V120),

@@ -1,6 +1,7 @@
 // Where a stop mark stands on a line.
-ghost use Rattle.std.specs.Prelude.{◌≡◌, ℕ};
-ghost use Rattle.rows.specs.Targets.{lengths_of, marked, Holds, Located};
+ghost use Rattle.std.specs.Prelude.{◌≡◌, ℕ, ◌≤◌, Decides};
+ghost use Rattle.rows.specs.Drawings.{drawing_of, lengths_of};
+ghost use Rattle.rows.specs.Targets.{marked, Holds, Located};
 
 use codes::Refusal;
 use rules::{Interval, Line, StopMark};
@@ -33,6 +34,13 @@ fn find_mark(marks: &[StopMark], number: u16) -> Option<StopMark>
     None
 }
 
+// Whether a position is not behind the end of an interval: the end still belongs to the interval.
+fn is_not_behind(position: u64, end: u64) -> bool
+    ensures { Decides result (position ≤ end) }
+{
+    position <= end
+}
+
 // The interval in which the position lies, behind its begin and not behind its end.
 fn holding(start: u32, intervals: &[Interval], position: u32) -> Option<Held>
     ensures { Holds start (lengths_of intervals.now) position result }
@@ -44,7 +52,7 @@ fn holding(start: u32, intervals: &[Interval], position: u32) -> Option<Held>
     }
     for (i, interval) in intervals.iter().enumerate() {
         let end = begin + interval.length as u64;
-        if sought <= end {
+        if is_not_behind(sought, end) {
             return Some(Held {
                 interval: i + 1,
                 begin,
@@ -57,8 +65,8 @@ fn holding(start: u32, intervals: &[Interval], position: u32) -> Option<Held>
 }
 
 // Where the mark with a number stands; refused by 8 where there is no such mark, or where it stands in no interval.
-pub(super) fn locate(line: &Line<'_>, number: u16) -> Result<Target, Refusal>
-    ensures { Located line.now number result }
+pub fn locate(line: &Line<'_>, number: u16) -> Result<Target, Refusal>
+    ensures { Located (drawing_of line.now) number result }
 {
     let Some(mark) = find_mark(line.marks, number) else {
         return Err(Refusal::Absent);

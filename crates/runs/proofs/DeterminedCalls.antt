@@ -4,16 +4,16 @@ use Rattle.std.proofs.Common.{◌≡◌, ℕ, Bool, true, false, List, [], ◌++
 use Rattle.std.proofs.lemmas.Bool.{both_ways}
 use Rattle.codes.specs.declared.refusals.Refusal.{Refusal}
 use Rattle.laws.specs.Books.{Emergencies, Services}
-use Rattle.rows_drawn.specs.Drawings.{Drawing}
+use Rattle.rows.specs.Drawings.{Drawing}
 use Rattle.trains.specs.Braking.{Numbers}
 use Rattle.driving.specs.Journeys.{Journey}
 use Rattle.sheet.specs.Sheets.{Pass, Phase, drawing, closed, passed, running, Sheet, drawn, passed_row, in_phase}
 use Rattle.runs.specs.Orders.{Order, Call, Outcome, refused, unworked}
 use Rattle.runs.specs.Orders.Order.{enter_interval, enter_gradient, enter_restriction, enter_mark, strike_gradient, strike_restriction, close, reopen, work_out, submit, set_off, step, leave}
 use Rattle.runs.specs.Runs.{takes, fault, track_on, WorksOut, works, works_not, Submits, passes, fails, told_of, Departs, Steps, stays, moves, Leaves, DepartsIn, StepsIn, LeavesIn, Performs, Ruled, Taken, Does}
-use Rattle.rows_drawn.proofs.Verdicts.{not_failed_from_passed}
-use Rattle.rows_drawn.proofs.Single.{passed_same, worked_same}
-use Rattle.rows_drawn.proofs.SingleRefusals.{not_unworked_from_worked, unworked_same, failed_same}
+use Rattle.rows.proofs.Verdicts.{not_failed_from_passed}
+use Rattle.rows.proofs.Single.{passed_same, worked_same}
+use Rattle.rows.proofs.SingleRefusals.{not_unworked_from_worked, unworked_same, failed_same}
 use Rattle.runs.proofs.DeterminedTrains.{sets_off_single, moves_single}
 
 abbrev pub Once : (Outcome → List ℕ → Sheet → Type 0) → Type 0

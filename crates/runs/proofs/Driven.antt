@@ -6,7 +6,7 @@ use Rattle.codes.specs.Speeds.{kmh}
 use Rattle.ground.specs.declared.entries.Entry.{Entry}
 use Rattle.laws.specs.Books.{Emergencies, Services, Distances, Laws}
 use Rattle.rules.specs.Tracks.{Mark}
-use Rattle.rows_drawn.specs.Drawings.{Drawing, track_drawn}
+use Rattle.rows.specs.Drawings.{Drawing, track_drawn}
 use Rattle.trains.specs.Braking.{Numbers}
 use Rattle.driving.specs.Journeys.{Journey}
 use Rattle.driving.proofs.Ways.{on_set_off, on_moves, on_safe}

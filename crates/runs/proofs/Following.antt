@@ -13,11 +13,11 @@ use Rattle.std.specs.List.{AllByRecursion}
 use Rattle.laws.specs.Books.{Emergencies, Services, Distances, Laws}
 use Rattle.ground.specs.Tables.{contents}
 use Rattle.rules.specs.Rules.{Lawful}
-use Rattle.rows_drawn.specs.declared.targets.Target.{Target}
-use Rattle.rows_drawn.specs.declared.letters.StopLetter.{StopLetter}
-use Rattle.rows_drawn.specs.Drawings.{Drawing, track_drawn}
-use Rattle.rows_drawn.specs.Targets.{LocatedAt, mark_of}
-use Rattle.rows_drawn.specs.WorkingOut.{Worked}
+use Rattle.rows.specs.declared.targets.Target.{Target}
+use Rattle.rows.specs.declared.letters.StopLetter.{StopLetter}
+use Rattle.rows.specs.Drawings.{Drawing, track_drawn}
+use Rattle.rows.specs.Targets.{LocatedAt, mark_of}
+use Rattle.rows.specs.WorkingOut.{Worked}
 use Rattle.driving.specs.Journeys.{Journey}
 use Rattle.driving.specs.Safety.{Drawn}
 use Rattle.driving.proofs.Ways.{On}

@@ -6,12 +6,12 @@ use Rattle.std.proofs.ByRecursion.{all-has}
 use Rattle.std.proofs.lemmas.Bool.Decides.{nat_tests}
 use Rattle.laws.specs.Books.{Emergencies, Services, Distances, Laws}
 use Rattle.rules.specs.Rules.{Lawful}
-use Rattle.rows_drawn.specs.Drawings.{track_drawn}
-use Rattle.rows_drawn.specs.Targets.{mark_of}
-use Rattle.rows_drawn.specs.Passing.{read_code, codes_of}
-use Rattle.rows_drawn.specs.WorkingOut.{Unworked}
-use Rattle.rows_drawn.specs.Examining.{Failed}
-use Rattle.rows_drawn.proofs.Verdicts.{passed_from_worked, not_failed_from_passed}
+use Rattle.rows.specs.Drawings.{track_drawn}
+use Rattle.rows.specs.Targets.{mark_of}
+use Rattle.rows.specs.Passing.{read_code, codes_of}
+use Rattle.rows.specs.WorkingOut.{Unworked}
+use Rattle.rows.specs.Examining.{Failed}
+use Rattle.rows.proofs.Verdicts.{passed_from_worked, not_failed_from_passed}
 use Rattle.sheet.specs.Sheets.{Heading, Tables, closed, Sheet, drawn}
 use Rattle.sheet.specs.Changes.{row_written}
 use Rattle.sheet.specs.Faults.{submit_fault, row_table_size}

@@ -6,9 +6,9 @@ use Rattle.std.proofs.ByRecursion.{All-map, All-weaker}
 use Rattle.rules.specs.declared.lines.Interval.{Interval}
 use Rattle.rules.specs.declared.lines.StopMark.{StopMark}
 use Rattle.rules.specs.Tracks.{Track, moved_on, begin_of}
-use Rattle.rows_drawn.specs.declared.targets.Target.{Target}
-use Rattle.rows_drawn.specs.Drawings.{track_drawn}
-use Rattle.rows_drawn.specs.Targets.{marked, LocatedAt, mark_of}
+use Rattle.rows.specs.declared.targets.Target.{Target}
+use Rattle.rows.specs.Drawings.{track_drawn}
+use Rattle.rows.specs.Targets.{marked, LocatedAt, mark_of}
 use Rattle.driving.specs.Safety.{Drawn}
 use Rattle.entering.specs.Entering.{FitInterval, FitMark}
 use Rattle.sheet.specs.Sheets.{Heading, Tables, drawn}

@@ -15,9 +15,9 @@ use Rattle.std.specs.List.{remove, ContainsAt, AllByRecursion}
 use Rattle.codes.specs.Speeds.{kmh}
 use Rattle.laws.specs.Books.{Emergencies, Services}
 use Rattle.rules.specs.declared.lines.StopMark.{StopMark}
-use Rattle.rows_drawn.specs.Drawings.{Drawing}
-use Rattle.rows_drawn.specs.Targets.{marked}
-use Rattle.rows_drawn.specs.WorkingOut.{Worked, Unworked}
+use Rattle.rows.specs.Drawings.{Drawing}
+use Rattle.rows.specs.Targets.{marked}
+use Rattle.rows.specs.WorkingOut.{Worked, Unworked}
 use Rattle.driving.specs.Safety.{Binds}
 use Rattle.entering.specs.Entering.{interval_of, gradient_of, restriction_of}
 use Rattle.entering.specs.Entering as written

@@ -8,7 +8,7 @@
 --     accepted o       the call was done
 --     refusing order n what the order answers when it is refused: the refusal's number and values, with the buffer or the train that it came with
 use Rattle.std.specs.Prelude.{ℕ, Bool, true, false, List, take, ℤ}
-use Rattle.rows_drawn.specs.declared.letters.StopLetter.{StopLetter}
+use Rattle.rows.specs.declared.letters.StopLetter.{StopLetter}
 use Rattle.trains.specs.Braking.{Numbers}
 use Rattle.sheet.specs.Sheets.{Tables}
 

@@ -12,11 +12,11 @@ use Rattle.codes.specs.Refusals.{notice}
 use Rattle.ground.specs.Tables.{closed_up}
 use Rattle.laws.specs.Books.{Emergencies, Services}
 use Rattle.rules.specs.Tracks.{Track}
-use Rattle.rows_drawn.specs.Drawings.{track_drawn}
-use Rattle.rows_drawn.specs.Targets.{mark_of}
-use Rattle.rows_drawn.specs.WorkingOut.{Worked, Unworked}
-use Rattle.rows_drawn.specs.Examining.{Passed, Failed}
-use Rattle.rows_drawn.specs.declared.letters.StopLetter.{StopLetter}
+use Rattle.rows.specs.Drawings.{track_drawn}
+use Rattle.rows.specs.Targets.{mark_of}
+use Rattle.rows.specs.WorkingOut.{Worked, Unworked}
+use Rattle.rows.specs.Examining.{Passed, Failed}
+use Rattle.rows.specs.declared.letters.StopLetter.{StopLetter}
 use Rattle.trains.specs.Braking.{Numbers}
 use Rattle.driving.specs.Journeys.{Journey, stands, SetsOff, Moves}
 use Rattle.entering.specs.Entering.{interval_of, gradient_of, restriction_of, interval_fault, gradient_fault, restriction_fault, mark_fault}

@@ -10,7 +10,7 @@ use Rattle.ground.specs.Tables.{contents}
 use Rattle.laws.specs.Books.{Emergencies}
 use Rattle.rules.specs.declared.lines.Interval.{Interval}
 use Rattle.rules.specs.Tracks.{Track, Mark}
-use Rattle.rows_drawn.specs.Drawings.{lengths_of}
+use Rattle.rows.specs.Drawings.{lengths_of}
 use Rattle.trains.specs.Braking.{Numbers}
 use Rattle.driving.specs.Journeys.{Journey, Differs, SetsOff, Arrives, Moves}
 use Rattle.driving.specs.Journeys.Arrives.{hears_code, hears_none}

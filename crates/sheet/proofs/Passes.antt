@@ -3,11 +3,11 @@ use Rattle.std.proofs.Common.{◌≡◌, ℕ, ◌≤◌, Bool, false, List, leng
 use Rattle.std.proofs.lemmas.List.{length-map, length-take}
 use Rattle.laws.specs.Books.{Emergencies, Services}
 use Rattle.rules.specs.declared.lines.Interval.{Interval}
-use Rattle.rows_drawn.specs.declared.targets.Target.{Target}
-use Rattle.rows_drawn.specs.Drawings.{Drawing}
-use Rattle.rows_drawn.specs.Targets.{mark_of, LocatedAt}
-use Rattle.rows_drawn.specs.Passing.{read_code}
-use Rattle.rows_drawn.specs.WorkedOut.{Short}
+use Rattle.rows.specs.declared.targets.Target.{Target}
+use Rattle.rows.specs.Drawings.{Drawing}
+use Rattle.rows.specs.Targets.{mark_of, LocatedAt}
+use Rattle.rows.specs.Passing.{read_code}
+use Rattle.rows.specs.WorkedOut.{Short}
 use Rattle.sheet.specs.Sheets.{Tables, Pass, drawn}
 use Rattle.sheet.specs.Changes.{row_written}
 use Rattle.sheet.specs.States.{heading_of, book_of}

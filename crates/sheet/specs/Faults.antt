@@ -17,7 +17,7 @@ use Rattle.ground.specs.declared.entries.Entry.{Entry}
 use Rattle.rules.specs.declared.lines.Interval.{Interval}
 use Rattle.rules.specs.declared.lines.StopMark.{StopMark}
 use Rattle.rules.specs.Tracks.{moved_on}
-use Rattle.rows_drawn.specs.Drawings.{lengths_of}
+use Rattle.rows.specs.Drawings.{lengths_of}
 use Rattle.trains.specs.Braking.{Numbers}
 use Rattle.entering.specs.Faults.{first}
 use Rattle.entering.specs.Entering.{short}

@@ -5,8 +5,8 @@ use Rattle.std.specs.Prelude.{◌≡◌, ℕ, List, Ok, Err, Result}
 use Rattle.codes.specs.declared.refusals.Refusal.{Refusal}
 use Rattle.codes.specs.Refusals.{notice}
 use Rattle.laws.specs.Books.{Emergencies, Services}
-use Rattle.rows_drawn.specs.Drawings.{Drawing}
-use Rattle.rows_drawn.specs.Examining.{Passed, Failed}
+use Rattle.rows.specs.Drawings.{Drawing}
+use Rattle.rows.specs.Examining.{Passed, Failed}
 use Rattle.sheet.specs.declared.fixed.Fixed.{Fixed}
 
 pub record Fixes (drawing : Drawing) (mark approach : ℕ) (E : Emergencies) (D : Services) (row : List ℕ) (fixed : Fixed) : Type 0 where

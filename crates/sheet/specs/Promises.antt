@@ -13,11 +13,11 @@ use Rattle.ground.specs.declared.entries.Entry.{Entry}
 use Rattle.ground.specs.Tables.{contents}
 use Rattle.laws.specs.Books.{Emergencies, Services}
 use Rattle.rules.specs.Tracks.{Track}
-use Rattle.rows_drawn.specs.declared.letters.StopLetter.{StopLetter}
-use Rattle.rows_drawn.specs.Drawings.{Drawing, lengths_of}
-use Rattle.rows_drawn.specs.Targets.{mark_of}
-use Rattle.rows_drawn.specs.WorkingOut.{Worked, Unworked}
-use Rattle.rows_drawn.specs.Examining.{Passed, Failed}
+use Rattle.rows.specs.declared.letters.StopLetter.{StopLetter}
+use Rattle.rows.specs.Drawings.{Drawing, lengths_of}
+use Rattle.rows.specs.Targets.{mark_of}
+use Rattle.rows.specs.WorkingOut.{Worked, Unworked}
+use Rattle.rows.specs.Examining.{Passed, Failed}
 use Rattle.rules.specs.declared.lines.Interval.{Interval}
 use Rattle.trains.specs.Braking.{Numbers}
 use Rattle.driving.specs.Journeys.{SetsOff, Moves}

@@ -15,8 +15,8 @@ use Rattle.ground.specs.Tables.{contents}
 use Rattle.rules.specs.declared.lines.Interval.{Interval}
 use Rattle.rules.specs.declared.lines.StopMark.{StopMark}
 use Rattle.rules.specs.Tracks.{Mark}
-use Rattle.rows_drawn.specs.Drawings.{Drawing}
-use Rattle.rows_drawn.specs.Passing.{codes_of}
+use Rattle.rows.specs.Drawings.{Drawing}
+use Rattle.rows.specs.Passing.{codes_of}
 use Rattle.driving.specs.Journeys.{Journey}
 
 pub record Heading : Type 0 where

@@ -7,7 +7,7 @@
 --     report_of journey         where the train of the journey is, how fast, and whether it stands
 use Rattle.trains.specs.Braking.{Numbers}
 use Rattle.driving.specs.Journeys.{Journey, stands}
-use Rattle.rows_drawn.specs.Targets.{mark_of}
+use Rattle.rows.specs.Targets.{mark_of}
 use Rattle.sheet.specs.declared.base.Base.{Base}
 use Rattle.sheet.specs.declared.open.OpenSheet.{OpenSheet}
 use Rattle.sheet.specs.declared.closed.ClosedSheet.{ClosedSheet}

@@ -14,7 +14,7 @@ use super::passed::PassedSheet;
 use super::refused::Refused;
 use books::BrakingBook;
 use codes::Refusal;
-use rows_drawn::{Failure, StopLetter, work_out_in};
+use rows::{Failure, StopLetter, work_out_in};
 
 // A sheet whose records are fixed until it is reopened.
 #[derive(Drop)]

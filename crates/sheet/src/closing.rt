@@ -1,7 +1,7 @@
 // What is checked before a sheet is closed.
 ghost use Rattle.std.specs.Prelude.{◌≡◌, ◌≤◌, ◌&&◌, length, nat_le, nat_lt};
 ghost use Rattle.rules.specs.Tracks.{moved_on};
-ghost use Rattle.rows_drawn.specs.Drawings.{lengths_of};
+ghost use Rattle.rows.specs.Drawings.{lengths_of};
 ghost use Rattle.sheet.specs.Faults.{all_marks_stand, unready, close_fault};
 ghost use Rattle.sheet.specs.States.{heading_of};
 

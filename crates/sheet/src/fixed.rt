@@ -2,7 +2,7 @@
 ghost use Rattle.std.specs.Prelude.{◌≤◌};
 
 use codes::Speed;
-use rows_drawn::Target;
+use rows::Target;
 
 // The mark with its interval, which is one of 64 at most, and the approach code.
 #[derive(Clone, Copy)]

@@ -1,13 +1,13 @@
 // Judging a row that is submitted, and keeping it.
 ghost use Rattle.std.specs.Prelude.{◌≡◌, ◌≤◌, length};
-ghost use Rattle.rows_drawn.specs.Drawings.{drawing_of};
+ghost use Rattle.rows.specs.Drawings.{drawing_of};
 ghost use Rattle.sheet.specs.Changes.{row_written};
 ghost use Rattle.sheet.specs.Judging.{Judged};
 
 use super::fixed::Fixed;
 use books::BrakingBook;
 use codes::{Refusal, Speed};
-use rows_drawn::{examine, locate};
+use rows::{examine, locate};
 use rules::Line;
 
 // Examines a row before a stop mark of a line with 64 intervals at most, and answers what a pass fixes. Refused as the examination

@@ -1,7 +1,7 @@
 // What the calls ask of the tables that they are lent, and what they read of them.
 ghost use Rattle.std.specs.Prelude.{◌≡◌, ◌≤◌, false, [], length, take};
 ghost use Rattle.ground.specs.Tables.{contents};
-ghost use Rattle.rows_drawn.specs.Drawings.{drawing_of};
+ghost use Rattle.rows.specs.Drawings.{drawing_of};
 ghost use Rattle.sheet.specs.Sheets.{drawn};
 ghost use Rattle.sheet.specs.Faults.{lent_short, row_short};
 ghost use Rattle.sheet.specs.States.{heading_of};

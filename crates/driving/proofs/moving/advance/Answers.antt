@@ -1,4 +1,4 @@
-use Rattle.rows_drawn.specs.Passing.{codes_of}
+use Rattle.rows.specs.Passing.{codes_of}
 use Rattle.driving.specs.Driving.{track_over, under_way}
 use Rattle.driving.proofs.Steps.{moves_unheard, moves_heard}
 use Rattle.driving.proofs.moving.advance.Goals as goal

@@ -1,7 +1,7 @@
 use Rattle.std.proofs.Common.{sym, ◌∙◌, arith}
 use Rattle.std.proofs.lemmas.List.{get_or_past, get_or-map, length-map}
 use Rattle.codes.specs.declared.speeds.Code.TheVariants.{Stop}
-use Rattle.rows_drawn.specs.Passing.{read_code, codes_of}
+use Rattle.rows.specs.Passing.{read_code, codes_of}
 use Rattle.driving.proofs.telling.code_in.Goals as goal
 
 pub returns-then-place-row : goal.returns-then-place-row

@@ -1,7 +1,7 @@
 use Rattle.std.proofs.Common.{sym, arith}
 use Rattle.std.proofs.lemmas.List.{get_or_past, get_or-map, length-map}
 use Rattle.rules.specs.declared.lines.Interval.{Interval}
-use Rattle.rows_drawn.specs.Drawings.{lengths_of}
+use Rattle.rows.specs.Drawings.{lengths_of}
 use Rattle.driving.proofs.telling.length_at.Goals as goal
 
 pub returns-then-place-intervals : goal.returns-then-place-intervals

@@ -1,6 +1,7 @@
 use Rattle.std.proofs.Common.{[], ◌∷◌, sym, ◌∙◌, subst}
 use Rattle.std.proofs.lemmas.List.{length-map}
 use Rattle.std.proofs.lemmas.Bool.Decides.{not_from_Decides}
+use Rattle.rows.specs.Drawings.{drawing_of}
 use Rattle.rows.specs.Targets.{track_of, mark_of}
 use Rattle.rows.specs.Passing.{read_code, codes_of}
 use Rattle.rows.specs.Examining.{Failed, absent, slow, size, strange, unlawful}
@@ -11,7 +12,7 @@ pub returns-in-Err : goal.returns-in-Err
 returns-in-Err g c =
     let book = c.args.book.now in
     let told = c.in-Err.ensures in
-    subst (Failed c.args.line.now c.args.mark c.args.approach (g.B.BrakingBook.emergencies book) (g.B.BrakingBook.services book) c.args.row.now) (sym told.0) (absent told.1)
+    subst (Failed (drawing_of c.args.line.now) c.args.mark c.args.approach (g.B.BrakingBook.emergencies book) (g.B.BrakingBook.services book) c.args.row.now) (sym told.0) (absent told.1)
 
 pub returns-in_default : goal.returns-in_default
 returns-in_default g c = slow c.in-Ok.target c.in-Ok.ensures (sym c.from_kmh.ensures ∙ c.in_default.is)
@@ -45,7 +46,7 @@ returns-in-Some-first_break g c =
     let D = g.B.BrakingBook.services book in
     let found = c.in-Some-first_break.found in
     let known = c.in-Some-first_break.ensures in
-    subst (λ n. Failed line c.args.mark c.args.approach E D c.args.row.now (12, found.interval ∷ n ∷ [])) known.numbered
+    subst (λ n. Failed (drawing_of line) c.args.mark c.args.approach E D c.args.row.now (12, found.interval ∷ n ∷ [])) known.numbered
     (unlawful c.in-Ok.target c.in-Some.speed (record { located = c.in-Ok.ensures; approaches = sym c.in-Some.ensures }) c.if-row-target.false
     (c.are_codes.ensures.0 c.if-not-are_codes.false) found.interval known.rule
     (breaks_from_known (track_of line) (mark_of c.in-Ok.target) E D c.in-Some.speed (codes_of c.args.row.now) found known))

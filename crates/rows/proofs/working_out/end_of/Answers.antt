@@ -1,7 +1,8 @@
 use Rattle.std.proofs.Common.{◌≡◌, ◌+◌, ◌<◌, length, sym, ap, ◌∙◌, arith}
 use Rattle.rules.specs.Tracks.{moved_on}
-use Rattle.rows.specs.Targets.{lengths_of}
-use Rattle.rows.proofs.Positions.{moved_none, moved_rises, length_at, end_here}
+use Rattle.rows.specs.Drawings.{lengths_of}
+use Rattle.rules.proofs.Moved.{moved_none, moved_rises}
+use Rattle.rows.proofs.Positions.{length_at, end_here}
 use Rattle.rows.proofs.working_out.end_of.Goals as goal
 
 pub loop-i-init : goal.loop-i-init

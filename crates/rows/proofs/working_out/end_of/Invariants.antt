@@ -1,6 +1,6 @@
 use Rattle.std.proofs.Common.{◌≡◌}
 use Rattle.rules.specs.Tracks.{moved_on}
-use Rattle.rows.specs.Targets.{lengths_of}
+use Rattle.rows.specs.Drawings.{lengths_of}
 use Rattle.rows.proofs.working_out.end_of.Given as goal
 
 abbrev pub invariant-loop-i : goal.invariant-loop-i

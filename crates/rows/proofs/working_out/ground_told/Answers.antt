@@ -4,9 +4,11 @@ use Rattle.ground.specs.Ground.{stretch_value}
 use Rattle.ground.specs.Kinds.{steepness}
 use Rattle.rules.specs.declared.lines.Interval.{Interval}
 use Rattle.rules.specs.Tracks.{begin_of}
-use Rattle.rows.specs.Targets.{track_of, mark_of, lengths_of}
+use Rattle.rows.specs.Drawings.{lengths_of}
+use Rattle.rows.specs.Targets.{track_of, mark_of}
 use Rattle.rows.specs.WorkingOut.{letter_of}
-use Rattle.rows.proofs.Positions.{moved_rises, begin_back}
+use Rattle.rules.proofs.Moved.{moved_rises}
+use Rattle.rows.proofs.Positions.{begin_back}
 use Rattle.rows.proofs.Grounds.{first_within, first_of_ground}
 use Rattle.rows.proofs.Beside.{stands}
 use Rattle.rows.proofs.working_out.ground_told.Goals as goal

@@ -1,4 +1,5 @@
-use Rattle.std.proofs.Common.{sym, refl, subst}
+use Rattle.std.proofs.Common.{sym, ◌∙◌, subst}
+use Rattle.std.proofs.lemmas.Bool.{cond-true, cond-false}
 use Rattle.std.proofs.lemmas.Bool.Decides.{not_from_Decides}
 use Rattle.codes.specs.declared.speeds.Code.TheVariants.{Go}
 use Rattle.rules.specs.Rules.{Allowed}
@@ -9,28 +10,28 @@ use Rattle.rows.specs.WorkingOut.{Spells}
 use Rattle.rows.proofs.Higher.{approach_allowed, found_highest}
 use Rattle.rows.proofs.working_out.settled.Goals as goal
 
-pub returns-then-not-is_allowed : goal.returns-then-not-is_allowed
-returns-then-not-is_allowed g c =
+pub returns-else-allowed : goal.returns-else-allowed
+returns-else-allowed g c =
     let track = track_of c.args.line.now in
     let mark = mark_of c.args.target.now in
     let book = c.args.book.now in
     let E = g.B.BrakingBook.emergencies book in
     let D = g.B.BrakingBook.services book in (
-      λ other lawful. not_from_Decides _ c.is_allowed.ensures c.if-not-is_allowed.true
+      λ other lawful. not_from_Decides _ c.is_allowed-allowed.ensures c.if-allowed.false
           (subst (Allowed track mark E D 0 (Go c.args.approach)) (sym c.fill_row-pass.ensures.next)
           (approach_allowed E D (g.B.BrakingBook.laws book) track mark (codes_of c.fill_row-pass.new.row) c.fill_row-pass.ensures.found c.args.approach other lawful)),
-      refl,
+      c.copy_lawful.ensures ∙ cond-false c.is_allowed-allowed.result _ _ c.if-allowed.false,
     )
 
-pub returns : goal.returns
-returns g c =
+pub returns-then-allowed : goal.returns-then-allowed
+returns-then-allowed g c =
     let track = track_of c.args.line.now in
     let mark = mark_of c.args.target.now in
     let book = c.args.book.now in
     let E = g.B.BrakingBook.emergencies book in
     let D = g.B.BrakingBook.services book in
-    let copied = sym c.copy_row.ensures in
-    let allowed = subst (Allowed track mark E D 0 (Go c.args.approach)) c.fill_row-pass.ensures.next (c.is_allowed.ensures.0 c.if-not-is_allowed.false) in (
+    let copied = sym (c.copy_lawful.ensures ∙ cond-true c.is_allowed-allowed.result _ _ c.if-allowed.true) in
+    let allowed = subst (Allowed track mark E D 0 (Go c.args.approach)) c.fill_row-pass.ensures.next (c.is_allowed-allowed.ensures.0 c.if-allowed.true) in (
       subst (λ bytes. Highest track mark E D c.args.approach (codes_of bytes)) copied
           (found_highest E D (g.B.BrakingBook.laws book) track mark (codes_of c.fill_row-pass.new.row) c.fill_row-pass.ensures.found c.args.approach allowed),
       subst (Spells 0) copied c.fill_row-pass.ensures.spelt,

@@ -1,5 +1,5 @@
 use Rattle.std.proofs.Common.{◌≡◌, drop}
-use Rattle.rows_drawn.specs.Drawings.{lengths_of}
+use Rattle.rows.specs.Drawings.{lengths_of}
 use Rattle.sheet.specs.Faults.{all_marks_stand}
 use Rattle.sheet.proofs.closing.all_marks_stand.Given as goal
 

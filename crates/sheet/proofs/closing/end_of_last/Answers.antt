@@ -3,8 +3,8 @@ use Rattle.std.proofs.lemmas.List.{length-map}
 use Rattle.rules.specs.declared.lines.Interval.{Interval}
 use Rattle.rules.specs.Tracks.{moved_on}
 use Rattle.rules.proofs.Moved.{moved_none}
-use Rattle.rows_drawn.specs.Drawings.{lengths_of}
-use Rattle.rows_drawn.proofs.Positions.{length_at, end_here}
+use Rattle.rows.specs.Drawings.{lengths_of}
+use Rattle.rows.proofs.Positions.{length_at, end_here}
 use Rattle.sheet.proofs.closing.end_of_last.Goals as goal
 
 pub loop-interval-init : goal.loop-interval-init

@@ -1,6 +1,6 @@
 use Rattle.std.proofs.Common.{◌≡◌, ◌+◌, ◌*◌, ◌≤◌}
 use Rattle.rules.specs.Tracks.{moved_on}
-use Rattle.rows_drawn.specs.Drawings.{lengths_of}
+use Rattle.rows.specs.Drawings.{lengths_of}
 use Rattle.sheet.proofs.closing.end_of_last.Given as goal
 
 -- the end of the intervals so far, each of which is below 2 ^ 32 m long

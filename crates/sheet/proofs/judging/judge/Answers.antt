@@ -1,8 +1,8 @@
 use Rattle.std.proofs.Common.{sym, subst}
 use Rattle.std.proofs.lemmas.Result.{err_from_is_err_and}
-use Rattle.rows_drawn.specs.Drawings.{drawing_of}
-use Rattle.rows_drawn.specs.Examining.{Failed, absent}
-use Rattle.rows_drawn.proofs.Verdicts.{located_same, speed_same}
+use Rattle.rows.specs.Drawings.{drawing_of}
+use Rattle.rows.specs.Examining.{Failed, absent}
+use Rattle.rows.proofs.Verdicts.{located_same, speed_same}
 use Rattle.sheet.proofs.Passes.{place_bounded}
 use Rattle.sheet.proofs.judging.judge.Goals as goal
 

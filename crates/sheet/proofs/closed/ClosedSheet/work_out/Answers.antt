@@ -1,5 +1,5 @@
 use Rattle.std.proofs.Common.{[], Err, ap}
-use Rattle.rows_drawn.specs.Drawings.{drawing_of}
+use Rattle.rows.specs.Drawings.{drawing_of}
 use Rattle.sheet.specs.Promises.{tables_of}
 use Rattle.sheet.proofs.Passes.{few_drawn, roomy}
 use Rattle.sheet.proofs.closed.ClosedSheet.work_out.Goals as goal

@@ -1,9 +1,9 @@
 use Rattle.std.proofs.Common.{length, sym, refl, ◌∙◌, subst, arith}
-use Rattle.rows_drawn.specs.Drawings.{drawing_of}
-use Rattle.rows_drawn.specs.WorkingOut.{Unworked, absent, slow, size, none, Worked}
-use Rattle.rows_drawn.proofs.Verdicts.{passed_from_worked}
-use Rattle.rows_drawn.proofs.Lacks.{lacks_not_absent, lacks_not_slow, lacks_not_size, lacks_not_room, lacks_not_done}
-use Rattle.rows_drawn.proofs.working_out.work_out_in.Goals as goal
+use Rattle.rows.specs.Drawings.{drawing_of}
+use Rattle.rows.specs.WorkingOut.{Unworked, absent, slow, size, none, Worked}
+use Rattle.rows.proofs.Verdicts.{passed_from_worked}
+use Rattle.rows.proofs.Lacks.{lacks_not_absent, lacks_not_slow, lacks_not_size, lacks_not_room, lacks_not_done}
+use Rattle.rows.proofs.working_out.work_out_in.Goals as goal
 
 pub returns-in-Err : goal.returns-in-Err
 returns-in-Err g c =

@@ -11,14 +11,14 @@ use Rattle.rules.specs.declared.lines.StopMark.{StopMark}
 use Rattle.rules.specs.Tracks.{Track, Mark, moved_on}
 use Rattle.rules.specs.Rules.{Rule, touching, ahead, service, stopping, next, Obeys, Allowed, code_at, Lawful}
 use Rattle.rules.specs.Rows.{Breaks}
-use Rattle.rows_drawn.specs.declared.targets.Held.{Held}
-use Rattle.rows_drawn.specs.declared.targets.Target.{Target}
-use Rattle.rows_drawn.specs.Drawings.{Drawing, track_drawn, lengths_of}
-use Rattle.rows_drawn.specs.Targets.{mark_of, marked, HeldBy, LocatedAt, Absent}
-use Rattle.rows_drawn.specs.Passing.{read_code, codes_of}
-use Rattle.rows_drawn.specs.declared.letters.StopLetter.{StopLetter}
-use Rattle.rows_drawn.specs.WorkingOut.{Worked}
-use Rattle.rows_drawn.specs.Examining.{Passed, Failed, absent, slow, size, strange, unlawful}
+use Rattle.rows.specs.declared.targets.Held.{Held}
+use Rattle.rows.specs.declared.targets.Target.{Target}
+use Rattle.rows.specs.Drawings.{Drawing, track_drawn, lengths_of}
+use Rattle.rows.specs.Targets.{mark_of, marked, HeldBy, LocatedAt, Absent}
+use Rattle.rows.specs.Passing.{read_code, codes_of}
+use Rattle.rows.specs.declared.letters.StopLetter.{StopLetter}
+use Rattle.rows.specs.WorkingOut.{Worked}
+use Rattle.rows.specs.Examining.{Passed, Failed, absent, slow, size, strange, unlawful}
 use Rattle.rules.proofs.Moved.{moved_rises}
 
 -- ---- where a mark stands

@@ -11,14 +11,14 @@ use Rattle.laws.specs.Books.{Emergencies, Services}
 use Rattle.rules.specs.Tracks.{Track, Mark, begin_of, class_over}
 use Rattle.rules.specs.Rules.{Rule, rule_number, code_at, train_length}
 use Rattle.rules.specs.Rows.{AtMost, Highest, Breaks}
-use Rattle.rows_drawn.specs.declared.targets.Target.{Target}
-use Rattle.rows_drawn.specs.declared.letters.StopLetter.{StopLetter}
-use Rattle.rows_drawn.specs.Drawings.{Drawing, track_drawn}
-use Rattle.rows_drawn.specs.Targets.{mark_of}
-use Rattle.rows_drawn.specs.Passing.{read_code, codes_of}
-use Rattle.rows_drawn.specs.WorkingOut.{Spells, letter_of, FirstOfGround, Grounded, Asked, Worked}
-use Rattle.rows_drawn.specs.Examining.{Passed}
-use Rattle.rows_drawn.proofs.Verdicts.{located_same, speed_same, obeys_from_allowed}
+use Rattle.rows.specs.declared.targets.Target.{Target}
+use Rattle.rows.specs.declared.letters.StopLetter.{StopLetter}
+use Rattle.rows.specs.Drawings.{Drawing, track_drawn}
+use Rattle.rows.specs.Targets.{mark_of}
+use Rattle.rows.specs.Passing.{read_code, codes_of}
+use Rattle.rows.specs.WorkingOut.{Spells, letter_of, FirstOfGround, Grounded, Asked, Worked}
+use Rattle.rows.specs.Examining.{Passed}
+use Rattle.rows.proofs.Verdicts.{located_same, speed_same, obeys_from_allowed}
 
 -- ---- rows
 

@@ -2,13 +2,13 @@
 use Rattle.std.proofs.Common.{◌≡◌, ℕ, ◌≤◌, List, length, None, Ok, Err, ap, ◌∙◌, arith}
 use Rattle.codes.specs.declared.refusals.Refusal.{Refusal}
 use Rattle.codes.specs.Speeds.{speed_of}
-use Rattle.rows_drawn.specs.Drawings.{Drawing}
-use Rattle.rows_drawn.specs.declared.targets.Target.{Target}
-use Rattle.rows_drawn.specs.declared.letters.StopLetter.{StopLetter}
-use Rattle.rows_drawn.specs.declared.failures.Failure.TheVariants.{Refused}
-use Rattle.rows_drawn.specs.Targets.{LocatedAt, Absent}
-use Rattle.rows_drawn.specs.WorkedOut.{Short, Lacking}
-use Rattle.rows_drawn.proofs.Verdicts.{located_same, not_absent_from_located, not_slow}
+use Rattle.rows.specs.Drawings.{Drawing}
+use Rattle.rows.specs.declared.targets.Target.{Target}
+use Rattle.rows.specs.declared.letters.StopLetter.{StopLetter}
+use Rattle.rows.specs.declared.failures.Failure.TheVariants.{Refused}
+use Rattle.rows.specs.Targets.{LocatedAt, Absent}
+use Rattle.rows.specs.WorkedOut.{Short, Lacking}
+use Rattle.rows.proofs.Verdicts.{located_same, not_absent_from_located, not_slow}
 
 module _ (drawing : Drawing) (number approach : ℕ) (before : List ℕ) (room : ℕ) where
   enough : (why : Refusal) → (Short drawing number approach before room → ⊥) → Lacking drawing number approach before room (Err (Refused why))

@@ -9,15 +9,15 @@ use Rattle.codes.specs.Speeds.{speed_of}
 use Rattle.laws.specs.Books.{Emergencies, Services}
 use Rattle.rules.specs.Rules.{Rule, rule_number, Lawful}
 use Rattle.rules.specs.Rows.{Breaks}
-use Rattle.rows_drawn.specs.declared.targets.Target.{Target}
-use Rattle.rows_drawn.specs.declared.letters.StopLetter.{StopLetter}
-use Rattle.rows_drawn.specs.Drawings.{Drawing, track_drawn}
-use Rattle.rows_drawn.specs.Targets.{mark_of, LocatedAt, Absent}
-use Rattle.rows_drawn.specs.Passing.{codes_of}
-use Rattle.rows_drawn.specs.WorkingOut.{Spells, Asked, Worked, Unworked}
-use Rattle.rows_drawn.specs.Examining.{Failed}
-use Rattle.rows_drawn.proofs.Verdicts.{located_same, not_absent_from_located, not_slow, not_failed_from_passed, passed_from_worked}
-use Rattle.rows_drawn.proofs.Single.{same_asked, breaks_same}
+use Rattle.rows.specs.declared.targets.Target.{Target}
+use Rattle.rows.specs.declared.letters.StopLetter.{StopLetter}
+use Rattle.rows.specs.Drawings.{Drawing, track_drawn}
+use Rattle.rows.specs.Targets.{mark_of, LocatedAt, Absent}
+use Rattle.rows.specs.Passing.{codes_of}
+use Rattle.rows.specs.WorkingOut.{Spells, Asked, Worked, Unworked}
+use Rattle.rows.specs.Examining.{Failed}
+use Rattle.rows.proofs.Verdicts.{located_same, not_absent_from_located, not_slow, not_failed_from_passed, passed_from_worked}
+use Rattle.rows.proofs.Single.{same_asked, breaks_same}
 
 abbrev First : {N : Type 0} → Type 0 → N → (N → Type 0) → N → Type 0
 First P a Q n = (P × (n ≡ a)) ⊎ ((P → ⊥) × Q n)

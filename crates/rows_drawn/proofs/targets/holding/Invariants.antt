@@ -1,7 +1,0 @@
-use Rattle.std.proofs.Common.{◌≡◌, ◌<◌}
-use Rattle.rules.specs.Tracks.{moved_on}
-use Rattle.rows_drawn.specs.Drawings.{lengths_of}
-use Rattle.rows_drawn.proofs.targets.holding.Given as goal
-
-abbrev pub invariant-loop-i : goal.invariant-loop-i
-invariant-loop-i l = (l.begin ≡ moved_on l.start (lengths_of l.intervals) l.i) × (l.begin < l.position)

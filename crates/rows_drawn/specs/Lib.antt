@@ -1,7 +1,0 @@
-pub mod Drawings
-pub mod Targets
-pub mod Finding
-pub mod Passing
-pub mod WorkingOut
-pub mod Examining
-pub mod WorkedOut

@@ -1,9 +1,0 @@
-// Why no row was worked out.
-use codes::Refusal;
-
-#[derive(Clone, Copy)]
-pub enum Failure {
-    Refused(Refusal),
-    // no memory could be had for a row
-    Memory,
-}

@@ -1,8 +1,0 @@
-// The stop letter.
-
-// How the stop ground is shown: Sf where the ground before the mark is of class 10 or 11, else Sv.
-#[derive(Clone, Copy)]
-pub enum StopLetter {
-    Sf,
-    Sv,
-}
