@@ -1,8 +1,8 @@
 // The gradient classes, and the class of a faldtal.
 ghost use Rattle.std.specs.Prelude.{◌≡◌, int_le};
-ghost use Rattle.codes.specs.Gradients.{number, class_of, edge, Classed};
+ghost use Rattle.codes.specs.Gradients.{number, class_of, Numbered, edge, first_reached, Classed};
 
-use super::refusals::Refusal;
+use super::refusals::{RecordFault, Refusal};
 
 // How steep the ground is; class 11 is the steepest.
 #[derive(Clone, Copy, Debug, PartialEq, Eq, PartialOrd, Ord)]
@@ -53,6 +53,17 @@ impl Class {
         self.edge() <= faldtal
     }
 
+    // The first class whose edge the faldtal does not fall below, or none where it falls below all.
+    #[tactic(auto, unfolding(crate::specs::Gradients::first_reached))]
+    fn first_reached(faldtal: i32) -> Option<Class>
+        ensures { result ≡ first_reached faldtal }
+    {
+        Class::ALL
+            .iter()
+            .copied()
+            .find(|class| class.reaches(faldtal))
+    }
+
     // The class of a faldtal in tenths of a permille, falls negative: the first whose edge it does not fall below.
     // A number outside -350 to 350 is no faldtal and is refused.
     pub fn of_faldtal(faldtal: i32) -> Result<Class, Refusal>
@@ -61,17 +72,17 @@ impl Class {
         if faldtal > 350 {
             return Err(Refusal::Grade);
         }
-        Class::ALL
-            .into_iter()
-            .find(|class| class.reaches(faldtal))
-            .ok_or(Refusal::Grade)
+        Class::first_reached(faldtal).ok_or(Refusal::Grade)
     }
 
     // The class of a number, or none where it is not 1 to 11.
     pub fn from_number(number: u8) -> Option<Class>
         ensures { result ≡ class_of number }
     {
-        Class::ALL.into_iter().find(|class| class.number() == number)
+        Class::ALL
+            .iter()
+            .copied()
+            .find(|class| class.number() == number)
     }
 
     // The number of the class, 1 to 11.
@@ -79,5 +90,16 @@ impl Class {
         ensures { result ≡ number self }
     {
         self as u8
+    }
+}
+
+// The class of a number; one that is not 1 to 11 is refused by 17, as in a record.
+impl TryFrom<u8> for Class {
+    type Error = Refusal;
+
+    ghost try_from_gives = { Numbered };
+
+    fn try_from(number: u8) -> Result<Class, Refusal> {
+        Class::from_number(number).ok_or(Refusal::Record(RecordFault::Entry))
     }
 }

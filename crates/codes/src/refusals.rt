@@ -3,7 +3,7 @@ ghost use Rattle.std.specs.Prelude.{◌≡◌};
 ghost use Rattle.codes.specs.Refusals.{notice};
 
 // Why a call was refused. A refusal leaves everything as it was, unless the call says otherwise.
-#[derive(Clone, Copy)]
+#[derive(Clone, Copy, Debug, PartialEq, Eq)]
 pub enum Refusal {
     // 1: the table or its limit is used up
     Full,
@@ -42,14 +42,14 @@ pub enum Refusal {
 }
 
 // A fault of a book file's bytes.
-#[derive(Clone, Copy)]
+#[derive(Clone, Copy, Debug, PartialEq, Eq)]
 pub enum FileFault {
     // 15: one byte is left, or a length is below 2 or reaches past the file
     Torn,
 }
 
 // A fault of a record.
-#[derive(Clone, Copy)]
+#[derive(Clone, Copy, Debug, PartialEq, Eq)]
 pub enum RecordFault {
     // 16: the kind is unknown, or has another length
     Kind,
@@ -58,7 +58,7 @@ pub enum RecordFault {
 }
 
 // A fault of the figures together.
-#[derive(Clone, Copy)]
+#[derive(Clone, Copy, Debug, PartialEq, Eq)]
 pub enum BookFault {
     // 18: the figure was given already
     Twice,

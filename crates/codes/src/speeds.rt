@@ -1,6 +1,8 @@
 // The nine speeds, and the codes that are sent into an interval: stop, or one of the speeds.
 ghost use Rattle.std.specs.Prelude.{◌≡◌};
-ghost use Rattle.codes.specs.Speeds.{kmh, byte, lower, speed_of, code_of};
+ghost use Rattle.codes.specs.Speeds.{kmh, byte, lower, speed_of, code_of, Drives, Reads};
+
+use super::refusals::Refusal;
 
 // A speed in km/h.
 #[derive(Clone, Copy, Debug, PartialEq, Eq, PartialOrd, Ord)]
@@ -41,7 +43,7 @@ impl Speed {
     pub fn from_kmh(kmh: u8) -> Option<Speed>
         ensures { result ≡ speed_of kmh }
     {
-        Speed::ALL.into_iter().find(|speed| speed.kmh() == kmh)
+        Speed::ALL.iter().copied().find(|speed| speed.kmh() == kmh)
     }
 
     // The speed in km/h.
@@ -74,10 +76,7 @@ impl Code {
         if byte == 0 {
             return Some(Code::Stop);
         }
-        match Speed::from_kmh(byte) {
-            Some(speed) => Some(Code::Go(speed)),
-            None => None,
-        }
+        Speed::from_kmh(byte).map(Code::Go)
     }
 
     // The byte of a code: 0 for stop, else the speed's km/h.
@@ -95,5 +94,27 @@ impl Code {
         ensures { result ≡ lower self other }
     {
         self < other
+    }
+}
+
+// The speed of so many km/h; a number that is none of the nine is refused by 4.
+impl TryFrom<u8> for Speed {
+    type Error = Refusal;
+
+    ghost try_from_gives = { Drives };
+
+    fn try_from(kmh: u8) -> Result<Speed, Refusal> {
+        Speed::from_kmh(kmh).ok_or(Refusal::Speed)
+    }
+}
+
+// The code of a byte: 0 is stop, a speed's km/h that speed; a byte that is no code is refused by 11.
+impl TryFrom<u8> for Code {
+    type Error = Refusal;
+
+    ghost try_from_gives = { Reads };
+
+    fn try_from(byte: u8) -> Result<Code, Refusal> {
+        Code::from_byte(byte).ok_or(Refusal::Byte)
     }
 }
