@@ -1,4 +1,3 @@
-mod Each
 pub mod Neighbours
 pub mod Places
 pub mod Fits

@@ -1,28 +1,30 @@
 -- Figures in order with their neighbours keep the four laws, and figures that keep them are in order. Assumes nothing.
 use Rattle.std.proofs.Common.{◌≡◌, ℕ, zero, suc, ◌+◌, ◌-◌, ◌<◌, ◌≤◌, Bool, true, false, not, ◌&&◌, ◌||◌, leb, ◌⊎◌, List, [], ◌∷◌, length, get_or, Some, None, Decides, Option, refl, subst, inl, inr, le_trans, le_refl, arith, ltb-true, lt-ltb, le-leb, leb-true}
+use Rattle.std.specs.List.{list_all}
 use Rattle.std.proofs.lemmas.Bool.{and_parts, and_from}
+use Rattle.std.proofs.lemmas.Bool.Decides.{Decides-at}
 use Rattle.codes.specs.declared.speeds.Speed.{Speed}
+use Rattle.codes.specs.declared.speeds.Speed.TheVariants.{V30, V40, V50, V60, V70, V80, V90, V100, V120}
 use Rattle.codes.specs.declared.speeds.Code.{Code}
-use Rattle.codes.specs.declared.speeds.Code.TheVariants.{Go}
+use Rattle.codes.specs.declared.speeds.Code.TheVariants.{Stop, Go}
 use Rattle.codes.specs.declared.gradients.Class.{Class}
+use Rattle.codes.specs.declared.gradients.Class.TheVariants.{C1, C2, C3, C4, C5, C6, C7, C8, C9, C10, C11}
 use Rattle.codes.specs.Speeds.{kmh, byte, lower, speeds, codes}
 use Rattle.codes.specs.Gradients.{number, classes}
 use Rattle.laws.specs.Books.{Emergencies, Services, Laws}
 use Rattle.laws.specs.Questions.{column, rank}
-use Rattle.laws.specs.Order.{each, due, next_speed, next_code, next_class, next_to_kept, next_from_kept, next_class_kept, emergency_in_order, to_in_order, service_from_kept, service_class_kept, service_in_order, row_in_order, class_in_order, in_order}
+use Rattle.laws.specs.Order.{due, next_speed, next_code, next_class, next_to_kept, next_from_kept, next_class_kept, emergency_in_order, to_in_order, service_from_kept, service_class_kept, service_in_order, row_in_order, class_in_order, in_order}
 
 -- ---- a test at each of a list
 
-each_at : {X : Type 0} (xs : List X) (test : X → Bool) → each xs test ≡ true → (i : ℕ) (x : X) → i < length xs → get_or xs i x ≡ x → test x ≡ true
-unfolding each
+each_at : {X : Type 0} (xs : List X) (test : X → Bool) → list_all test xs ≡ true → (i : ℕ) (x : X) → i < length xs → get_or xs i x ≡ x → test x ≡ true
 each_at [] test passes i x l e = absurd (omega arith)
-each_at (y ∷ ys) test passes zero x l e = subst (λ z. test z ≡ true) e (and_parts (test y) (each ys test) passes).0
-each_at (y ∷ ys) test passes (suc i) x l e = each_at ys test (and_parts (test y) (each ys test) passes).1 i x (omega arith) e
+each_at (y ∷ ys) test passes zero x l e = subst (λ z. test z ≡ true) e (and_parts (test y) (list_all test ys) passes).0
+each_at (y ∷ ys) test passes (suc i) x l e = each_at ys test (and_parts (test y) (list_all test ys) passes).1 i x (omega arith) e
 
-pub each_from : {X : Type 0} (xs : List X) (test : X → Bool) → ((x : X) → test x ≡ true) → each xs test ≡ true
-unfolding each
+pub each_from : {X : Type 0} (xs : List X) (test : X → Bool) → ((x : X) → test x ≡ true) → list_all test xs ≡ true
 each_from [] test all = refl
-each_from (x ∷ xs) test all = and_from (test x) (each xs test) (all x) (each_from xs test all)
+each_from (x ∷ xs) test all = and_from (test x) (list_all test xs) (all x) (each_from xs test all)
 
 class_within : (k : Class) → (number k - 1 < 11) × (get_or classes (number k - 1) k ≡ k)
 class_within k = grind arith
@@ -33,13 +35,13 @@ speed_within v = grind arith
 code_within : (c : Code) → (rank c < 10) × (get_or codes (rank c) c ≡ c)
 code_within c = grind arith
 
-pub each_class : (test : Class → Bool) → each classes test ≡ true → (k : Class) → test k ≡ true
+pub each_class : (test : Class → Bool) → list_all test classes ≡ true → (k : Class) → test k ≡ true
 each_class test passes k = each_at classes test passes (number k - 1) k (class_within k).0 (class_within k).1
 
-pub each_speed : (test : Speed → Bool) → each speeds test ≡ true → (v : Speed) → test v ≡ true
+pub each_speed : (test : Speed → Bool) → list_all test speeds ≡ true → (v : Speed) → test v ≡ true
 each_speed test passes v = each_at speeds test passes (column v) v (speed_within v).0 (speed_within v).1
 
-pub each_code : (test : Code → Bool) → each codes test ≡ true → (c : Code) → test c ≡ true
+pub each_code : (test : Code → Bool) → list_all test codes ≡ true → (c : Code) → test c ≡ true
 each_code test passes c = each_at codes test passes (rank c) c (code_within c).0 (code_within c).1
 
 -- ---- from neighbour to neighbour
@@ -59,13 +61,40 @@ byte_rises a b l = grind arith
 
 -- a neighbour stands one place further
 next_speed_place : (v w : Speed) → next_speed v ≡ Some w → column w ≡ suc (column v)
-next_speed_place v w e = grind arith
+next_speed_place V30 w e = grind arith
+next_speed_place V40 w e = grind arith
+next_speed_place V50 w e = grind arith
+next_speed_place V60 w e = grind arith
+next_speed_place V70 w e = grind arith
+next_speed_place V80 w e = grind arith
+next_speed_place V90 w e = grind arith
+next_speed_place V100 w e = grind arith
+next_speed_place V120 w e = grind arith
 
 next_code_place : (a b : Code) → next_code a ≡ Some b → rank b ≡ suc (rank a)
-next_code_place a b e = grind arith
+next_code_place Stop b e = grind arith
+next_code_place (Go V30) b e = grind arith
+next_code_place (Go V40) b e = grind arith
+next_code_place (Go V50) b e = grind arith
+next_code_place (Go V60) b e = grind arith
+next_code_place (Go V70) b e = grind arith
+next_code_place (Go V80) b e = grind arith
+next_code_place (Go V90) b e = grind arith
+next_code_place (Go V100) b e = grind arith
+next_code_place (Go V120) b e = grind arith
 
 next_class_place : (j k : Class) → next_class j ≡ Some k → number k ≡ suc (number j)
-next_class_place j k e = grind arith
+next_class_place C1 k e = grind arith
+next_class_place C2 k e = grind arith
+next_class_place C3 k e = grind arith
+next_class_place C4 k e = grind arith
+next_class_place C5 k e = grind arith
+next_class_place C6 k e = grind arith
+next_class_place C7 k e = grind arith
+next_class_place C8 k e = grind arith
+next_class_place C9 k e = grind arith
+next_class_place C10 k e = grind arith
+next_class_place C11 k e = grind arith
 
 -- one without a neighbour is the highest
 speed_top : (v w : Speed) → next_speed v ≡ None → column w ≤ column v
@@ -135,9 +164,10 @@ guarded true t e passes = passes
 guarded false t e passes = let z : t ≡ true = cc in z
 
 module _ (E : Emergencies) (D : Services) (ordered : in_order E D ≡ true) where
-  row : (k : Class) (from : Speed) → (service_in_order D k from ≡ true) × (each codes (to_in_order E k from) ≡ true)
+  row : (k : Class) (from : Speed) → (service_in_order D k from ≡ true) × (list_all (to_in_order E k from) codes ≡ true)
+  unfolding row_in_order class_in_order in_order
   row k from =
-      and_parts (service_in_order D k from) (each codes (to_in_order E k from))
+      and_parts (service_in_order D k from) (list_all (to_in_order E k from) codes)
       (each_speed (row_in_order E D k) (each_class (class_in_order E D) ordered k) from)
 
   emergency_passes : (k : Class) (from : Speed) (to : Code) → byte to < kmh from → emergency_in_order E k from to ≡ true
@@ -210,10 +240,15 @@ module _ (E : Emergencies) (D : Services) (laws : Laws E D) where
       let place = next_class_place k steeper e in le-leb _ _ (laws.steeper_service k steeper from (omega arith))))
 
   pub order_from_laws : in_order E D ≡ true
+  unfolding row_in_order class_in_order in_order
   order_from_laws =
       each_from classes (class_in_order E D) (λ k. each_from speeds (row_in_order E D k) (λ from.
-      and_from (service_in_order D k from) (each codes (to_in_order E k from)) (service_kept k from)
+      and_from (service_in_order D k from) (list_all (to_in_order E k from) codes) (service_kept k from)
       (each_from codes (to_in_order E k from) (λ to. unguarded (lower to (Go from)) (emergency_in_order E k from to) (λ under. emergency_kept k from to (ltb-true _ _ under))))))
 
 pub order_decides : (E : Emergencies) (D : Services) → Decides (in_order E D) (Laws E D)
 order_decides E D = (laws_from_order E D, order_from_laws E D)
+
+-- an answer that is the test's decides the laws
+pub laws_decided : (E : Emergencies) (D : Services) (b : Bool) → b ≡ in_order E D → Decides b (Laws E D)
+laws_decided E D b e = Decides-at b (in_order E D) e (order_decides E D)

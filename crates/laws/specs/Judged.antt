@@ -6,11 +6,12 @@
 --     fits xs, judged xs    the same as tests that can be computed
 --     Judged xs r        r is that refusal, or none where xs is a book
 use Rattle.std.specs.Prelude.{◌≡◌, ℕ, ◌<◌, Bool, cond, ◌&&◌, List, [], length, Ok, Err, Result, ◌==◌, ◌≢◌, nat_le, slice_index}
+use Rattle.std.specs.List.{list_all}
 use Rattle.codes.specs.declared.refusals.Refusal.{Refusal}
 use Rattle.codes.specs.Refusals.{notice, Told, gives, refuses}
 use Rattle.laws.specs.Books.{Metres, Laws}
 use Rattle.laws.specs.Questions.{emergency_of, service_of}
-use Rattle.laws.specs.Order.{each, in_order}
+use Rattle.laws.specs.Order.{in_order}
 
 abbrev pub Ranged : List ℕ → Type 0
 Ranged xs = (i : ℕ) → i < length xs → Metres (slice_index xs i)
@@ -32,11 +33,11 @@ metres d = nat_le 1 d && nat_le d 4095
 abbrev pub judged : List ℕ → Told (Unit {0})
 judged xs =
     cond (length xs == 594)
-    (cond (each xs metres) (cond (in_order (emergency_of xs) (service_of xs)) (gives tt) (refuses (20, []))) (refuses (17, [])))
+    (cond (list_all metres xs) (cond (in_order (emergency_of xs) (service_of xs)) (gives tt) (refuses (20, []))) (refuses (17, [])))
     (refuses (10, []))
 
 abbrev pub fits : List ℕ → Bool
-fits xs = length xs == 594 && each xs metres && in_order (emergency_of xs) (service_of xs)
+fits xs = length xs == 594 && list_all metres xs && in_order (emergency_of xs) (service_of xs)
 
 -- the number of the first refusal that is due to a table that is no book
 pub data Unfit (xs : List ℕ) : ℕ → Type 0 where

@@ -2,7 +2,7 @@
 // rising, then the nine service figures, from rising.
 ghost use Rattle.std.specs.Prelude.{◌≡◌, ℕ, ◌<◌, slice_index};
 ghost use Rattle.codes.specs.Refusals.{told};
-ghost use Rattle.laws.specs.Order.{each};
+ghost use Rattle.std.specs.List.{list_all};
 ghost use Rattle.laws.specs.Questions.{emergency, service, place, column, rank, before, emergency_of, service_of};
 ghost use Rattle.laws.specs.Judged.{metres, judged, Judged};
 
@@ -14,7 +14,7 @@ use codes::{BookFault, Class, Code, RecordFault, Refusal, Speed};
 pub const FIGURE_COUNT: usize = 594;
 
 // A table of figures; a figure that it lacks counts as 0.
-#[derive(Clone, Copy)]
+#[derive(Clone, Copy, Debug)]
 pub struct Table<'a> {
     pub figures: &'a [u16],
 }
@@ -74,7 +74,7 @@ pub fn service_place(class: Class, from: Speed) -> usize
 fn figure_at(table: &[u16], place: usize) -> u16
     ensures { result ≡ slice_index table.now place }
 {
-    if place < table.len() { table[place] } else { 0 }
+    table.get(place).copied().unwrap_or(0)
 }
 
 impl<'a> Figures for Table<'a> {
@@ -100,14 +100,9 @@ pub fn is_distance(figure: u16) -> bool
 
 // Whether each figure is 1 to 4,095 m.
 fn in_range(table: &[u16]) -> bool
-    ensures { result ≡ each table.now metres }
+    ensures { result ≡ list_all metres table.now }
 {
-    for figure in table {
-        if !is_distance(*figure) {
-            return false;
-        }
-    }
-    true
+    table.iter().all(|figure| is_distance(*figure))
 }
 
 // The first refusal that is due to a table.
@@ -128,6 +123,7 @@ fn first_fault(table: &[u16]) -> Result<(), Refusal>
 
 // Whether a table in writing order is a book: refused by 10 where it has not 594 figures, by 17 where one of them is outside
 // 1 to 4,095 m, and by 20 exactly where they break a law.
+#[tactic(auto, using(crate::proofs::Fits::judged_from_told))]
 pub fn judge(table: &[u16]) -> Result<(), Refusal>
     ensures { Judged table.now result }
 {
