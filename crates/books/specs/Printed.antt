@@ -8,8 +8,9 @@
 --     stands figure from to   whether from and to are the headings of a figure
 --     beside table from to    the distance that stands in a table beside the headings from and to, 0 where none does
 --     printed_emergency, printed_service    E and D of the printed book
-use Rattle.std.specs.Prelude.{ℕ, ◌-◌, Bool, cond, ◌&&◌, List, [], ◌∷◌, length, drop, ◌==◌}
-use Rattle.std.specs.List.{flat_map}
+use Rattle.std.specs.Prelude.{ℕ, ◌-◌, Bool, ◌&&◌, List, [], ◌∷◌, length, drop, ◌==◌}
+use Rattle.std.specs.Option.{option_map_or}
+use Rattle.std.specs.List.{find, flat_map}
 use Rattle.codes.specs.declared.speeds.Speed.{Speed}
 use Rattle.codes.specs.declared.speeds.Speed.TheVariants.{V30, V40, V50, V60, V70, V80, V90, V100}
 use Rattle.codes.specs.declared.speeds.Code.{Code}
@@ -177,8 +178,7 @@ abbrev pub stands : Figure → Speed → Code → Bool
 stands figure from to = kmh figure.0 == kmh from && byte figure.1 == byte to
 
 unfoldable pub beside : List Figure → Speed → Code → ℕ
-beside [] from to = 0
-beside (figure ∷ figures) from to = cond (stands figure from to) figure.2 (beside figures from to)
+beside table from to = option_map_or (λ (figure : Figure). figure.2) (find (λ figure. stands figure from to) table) 0
 
 abbrev pub printed_emergency : Emergencies
 printed_emergency k = beside (emergency_table k)

@@ -6,7 +6,7 @@
 use Rattle.std.specs.Prelude.{◌≡◌, ℕ, true, List, refl}
 use Rattle.std.proofs.Common.{subst}
 use Rattle.laws.specs.Books.{Metres, Distances, Laws}
-use Rattle.laws.specs.Order.{each, in_order}
+use Rattle.laws.specs.Order.{row_in_order, class_in_order, in_order}
 use Rattle.laws.specs.Questions.{Question, emergency, service, Asks, figure, questions, written}
 use Rattle.laws.specs.Judged.{fits}
 use Rattle.laws.proofs.Neighbours.{laws_from_order}
@@ -19,7 +19,7 @@ abbrev pub printed : List ℕ
 printed = written printed_emergency printed_service
 
 pub printed_fits : fits printed ≡ true
-unfolding written questions each beside
+unfolding written questions beside row_in_order class_in_order in_order
 printed_fits = refl
 
 printed_metres : (q : Question) → Asks q → Metres (figure printed_emergency printed_service q)
@@ -32,7 +32,7 @@ printed_distances = record {
 }
 
 printed_in_order : in_order printed_emergency printed_service ≡ true
-unfolding each beside
+unfolding beside row_in_order class_in_order in_order
 printed_in_order = refl
 
 pub printed_laws : Laws printed_emergency printed_service

@@ -1,6 +1,7 @@
 // The braking book as published.
 ghost use Rattle.std.specs.Prelude.{◌≡◌};
-ghost use Rattle.books.specs.Printed.{beside, printed_emergency, printed_service};
+ghost use Rattle.std.specs.List.{find};
+ghost use Rattle.books.specs.Printed.{stands, beside, printed_emergency, printed_service};
 ghost use Rattle.books.specs.PrintedLaws.{printed_distances, printed_laws};
 
 mod tables;
@@ -10,19 +11,25 @@ use codes::{Class, Code, RecordFault, Refusal, Speed};
 use tables::{Figure, emergency_table, service_table};
 
 // The book with the printed distances.
-#[derive(Clone, Copy)]
+#[derive(Clone, Copy, Debug)]
 pub struct PublishedBook;
 
+// The figure that stands in a table beside its headings, or none.
+fn figure_beside(table: &[Figure], from: Speed, to: Code) -> Option<Figure>
+    ensures { result ≡ find (λ figure. stands figure from to) table.now }
+{
+    table
+        .iter()
+        .copied()
+        .find(|figure| figure.is_beside(from, to))
+}
+
 // The distance in metres that stands in a table beside its headings; 0 where none does.
+#[tactic(auto, unfolding(crate::specs::Printed::beside))]
 fn metres_beside(table: &[Figure], from: Speed, to: Code) -> u16
     ensures { result ≡ beside table.now from to }
 {
-    for figure in table {
-        if figure.is_beside(from, to) {
-            return figure.2;
-        }
-    }
-    0
+    figure_beside(table, from, to).map_or(0, Figure::metres)
 }
 
 impl BrakingBook for PublishedBook {
@@ -35,7 +42,7 @@ impl BrakingBook for PublishedBook {
     ghost laws = { λ _. printed_laws };
 
     fn emergency(&self, class: Class, from: Speed, to: Code) -> Result<u16, Refusal> {
-        if !to.is_below(Code::Go(from)) {
+        if !(to < Code::Go(from)) {
             return Err(Refusal::Record(RecordFault::Entry));
         }
         Ok(metres_beside(emergency_table(class), from, to))

@@ -14,6 +14,7 @@ use codes::{Class, Code, RecordFault, Refusal, Speed};
 use laws::{Figures, Table, judge};
 
 // No table is lent, and the published figures stand in for it: they are a book, and answer each question as printed.
+#[tactic(auto, using(crate::specs::PrintedLaws::printed_fits, crate::proofs::AsPrinted::printed_agree))]
 fn nothing_lent<'a>() -> Option<&'a [u16]>
     ensures { Unlent result }
 {
@@ -33,6 +34,7 @@ impl<'a> FileBook<'a> {
 
     // Lays the book over a table in writing order. A table that is no book is refused, and the book stays as it was: by 10 where
     // it has not 594 figures, by 17 where one is outside 1 to 4,095 m, and by 20 where they break a law.
+    #[tactic(auto, using(laws::proofs::Fits::fits_from_book))]
     pub fn lay_over(&mut self, table: &'a [u16]) -> Result<(), Refusal>
         ensures judged { Judged table.now result }
         ensures after { shown self.new ≡ laid (shown self.old) table.now result }
@@ -52,14 +54,16 @@ impl<'a> BrakingBook for FileBook<'a> {
 
     ghost laws = { shown_laws };
 
+    #[tactic(auto, using(crate::proofs::AsPrinted::emergency_as_printed))]
     fn emergency(&self, class: Class, from: Speed, to: Code) -> Result<u16, Refusal> {
         match self.table {
             None => PublishedBook.emergency(class, from, to),
-            Some(_) if !to.is_below(Code::Go(from)) => Err(Refusal::Record(RecordFault::Entry)),
+            Some(_) if !(to < Code::Go(from)) => Err(Refusal::Record(RecordFault::Entry)),
             Some(figures) => Ok(Table { figures }.emergency(class, from, to)),
         }
     }
 
+    #[tactic(auto, using(crate::proofs::AsPrinted::service_as_printed))]
     fn service(&self, class: Class, from: Speed) -> u16 {
         match self.table {
             None => PublishedBook.service(class, from),

@@ -7,14 +7,22 @@ use codes::Speed::{V30, V40, V50, V60, V70, V80, V90, V100, V120};
 use codes::{Class, Code, Speed};
 
 // A figure beside its headings: the speed to brake from, the code to brake to, and the distance in metres.
-#[derive(Clone, Copy)]
-pub(super) struct Figure(Speed, Code, pub(super) u16);
+#[derive(Clone, Copy, Debug)]
+pub(super) struct Figure(Speed, Code, u16);
 
 impl Figure {
+    // The distance in metres.
+    pub(super) fn metres(self) -> u16
+        ensures { result ≡ self.2 }
+    {
+        self.2
+    }
+
     // Whether these are the headings that the figure stands beside.
     pub(super) fn is_beside(self, from: Speed, to: Code) -> bool
         ensures { result ≡ stands self from to }
     {
+        // by number: a derived `==` of codes proved only code by code, ten times ten
         self.0.kmh() == from.kmh() && self.1.byte() == to.byte()
     }
 }
