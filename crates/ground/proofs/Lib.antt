@@ -1,5 +1,5 @@
 mod Covered
-mod Found
+mod Reduced
 pub mod Bounds
 mod Metres
 pub mod Laws

@@ -4,7 +4,6 @@
 // from an entry's end cannot wrap.
 ghost use Rattle.std.specs.Prelude.{◌≡◌};
 ghost use Rattle.ground.specs.Ground.{covers, metre_value};
-ghost use Rattle.ground.specs.Steps.{worsened};
 
 use super::graded::Graded;
 
@@ -25,26 +24,14 @@ impl<V> Entry<V> {
     }
 }
 
-// The worst value so far at a metre, if any, once one entry more is looked at.
-fn worsened<V: Graded>(so_far: Option<V>, entry: &Entry<V>, metre: u64) -> Option<V>
-    ensures { result ≡ worsened V.grading metre so_far entry.now }
-{
-    if !entry.covers(metre) {
-        return so_far;
-    }
-    match so_far {
-        Some(worst) => Some(worst.worse(entry.value)),
-        None => Some(entry.value),
-    }
-}
-
 // The value of a metre: the worst of the entries that cover it, or that of undrawn ground where none does.
 pub fn value_at<V: Graded>(entries: &[Entry<V>], metre: u64) -> V
     ensures { result ≡ metre_value V.grading entries.now metre }
 {
-    let mut worst = None;
-    for entry in entries {
-        worst = worsened(worst, entry, metre);
-    }
-    worst.unwrap_or(V::undrawn_value())
+    entries
+        .iter()
+        .filter(|entry| entry.covers(metre))
+        .map(|entry| entry.value)
+        .reduce(|worst, value| worst.worse(value))
+        .unwrap_or(V::UNDRAWN)
 }

@@ -2,9 +2,12 @@
 ghost use Rattle.std.specs.Prelude.{◌≡◌, min, max};
 ghost use Rattle.codes.specs.Gradients.{number};
 ghost use Rattle.codes.specs.Speeds.{kmh};
+ghost use Rattle.codes.specs.declared.gradients.Class.TheVariants.{C11};
+ghost use Rattle.codes.specs.declared.speeds.Speed.TheVariants.{V120};
 ghost use Rattle.ground.specs.Grading.{Grading, Lawful};
 ghost use Rattle.ground.specs.Kinds.{steepness, slowness};
 ghost use Rattle.ground.specs.BothKinds.{steepness_lawful, slowness_lawful};
+ghost use mathlib.Core.Path.{refl};
 
 use codes::{Class, Speed};
 
@@ -16,13 +19,14 @@ pub trait Graded: Copy {
     // The value of ground over which nothing is drawn.
     const UNDRAWN: Self;
 
-    // `UNDRAWN` for code that is generic over the kind: no contract can speak of a constant there.
-    fn undrawn_value() -> Self
-        ensures { result ≡ grading.undrawn };
+    ghost UNDRAWN: { Self };
 
     // The worse of the two.
     fn worse(self, other: Self) -> Self
         ensures { result ≡ grading.worse self other };
+
+    // The constant is the kind's value of undrawn ground.
+    ghost undrawn: { UNDRAWN ≡ grading.undrawn };
 
     // The worse of two is one of them, and depends neither on order nor on grouping.
     ghost lawful: { Lawful grading };
@@ -34,21 +38,17 @@ impl Graded for Class {
 
     const UNDRAWN: Class = Class::C11;
 
-    ghost lawful = { steepness_lawful };
+    ghost UNDRAWN = { C11 };
 
-    fn undrawn_value() -> Class {
-        Self::UNDRAWN
-    }
+    ghost undrawn = { refl };
+
+    ghost lawful = { steepness_lawful };
 
     fn worse(self, other: Class) -> Class
         ensures value { result ≡ steepness.worse self other }
         ensures steeper { number result ≡ max (number self) (number other) }
     {
-        if self.number() < other.number() {
-            other
-        } else {
-            self
-        }
+        if self < other { other } else { self }
     }
 }
 
@@ -58,20 +58,16 @@ impl Graded for Speed {
 
     const UNDRAWN: Speed = Speed::V120;
 
-    ghost lawful = { slowness_lawful };
+    ghost UNDRAWN = { V120 };
 
-    fn undrawn_value() -> Speed {
-        Self::UNDRAWN
-    }
+    ghost undrawn = { refl };
+
+    ghost lawful = { slowness_lawful };
 
     fn worse(self, other: Speed) -> Speed
         ensures value { result ≡ slowness.worse self other }
         ensures slower { kmh result ≡ min (kmh self) (kmh other) }
     {
-        if other.kmh() < self.kmh() {
-            other
-        } else {
-            self
-        }
+        self.min(other)
     }
 }

@@ -10,4 +10,4 @@ mod tables;
 pub use entries::{Entry, value_at};
 pub use graded::Graded;
 pub use stretches::worst_over;
-pub use tables::{append, remove};
+pub use tables::{append, check_room, remove};

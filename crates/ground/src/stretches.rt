@@ -2,8 +2,8 @@
 //
 // The value changes only where an entry begins or ends, so it is asked for at the stretch's begin and at each change
 // within it: how long that takes depends on the number of entries, and not on that of the metres.
-ghost use Rattle.std.specs.Prelude.{◌≡◌, ◌<◌};
-ghost use Rattle.ground.specs.Ground.{stretch_value};
+ghost use Rattle.std.specs.Prelude.{◌≡◌, fold};
+ghost use Rattle.ground.specs.Ground.{metre_value, stretch_value};
 ghost use Rattle.ground.specs.Steps.{worsened_at, worsened_by};
 ghost use Rattle.ground.specs.StretchLaws.{StretchLaws};
 
@@ -29,16 +29,15 @@ fn worsened_by<V: Graded>(entries: &[Entry<V>], from: u64, to: u64, worst: V, en
     worsened_at(entries, from, to, at_begin, entry.to as u64)
 }
 
-// The worst value over a stretch that has metres.
-fn worst_of_metres<V: Graded>(entries: &[Entry<V>], from: u64, to: u64) -> V
-    requires { from < to }
-    ensures { result ≡ stretch_value V.grading entries.now from to }
+// The worst value at the begin and at the changes within, where the stretch has metres.
+fn worst_at_changes<V: Graded>(entries: &[Entry<V>], from: u64, to: u64) -> V
+    ensures { result ≡ fold (worsened_by V.grading entries.now from to) (metre_value V.grading entries.now from) entries.now }
 {
-    let mut worst = value_at(entries, from);
-    for entry in entries {
-        worst = worsened_by(entries, from, to, worst, entry);
-    }
-    worst
+    entries
+        .iter()
+        .fold(value_at(entries, from), |worst, entry| {
+            worsened_by(entries, from, to, worst, entry)
+        })
 }
 
 // The worst value of the metres `from` to `to` - 1; a stretch without metres counts as undrawn ground.
@@ -47,7 +46,7 @@ pub fn worst_over<V: Graded>(entries: &[Entry<V>], from: u64, to: u64) -> V
     ensures laws { StretchLaws V.grading }
 {
     if to <= from {
-        return V::undrawn_value();
+        return V::UNDRAWN;
     }
-    worst_of_metres(entries, from, to)
+    worst_at_changes(entries, from, to)
 }
