@@ -18,7 +18,7 @@ pub(super) fn asked_for(
     ensures { AskedFor (drawing_of line.now) mark approach (length row.now) result }
 {
     let target = locate(line, mark)?;
-    let speed = Speed::from_kmh(approach).ok_or(Refusal::Speed)?;
+    let speed = Speed::try_from(approach)?;
     if row.len() != target.held.interval {
         return Err(Refusal::Size);
     }

@@ -37,7 +37,7 @@ fn broken_rule(caps: &FiveCaps, code: Code) -> Option<u8>
 fn is_code(byte: u8) -> bool
     ensures { result ≡ is_some (code_of byte) }
 {
-    Code::from_byte(byte).is_some()
+    Code::try_from(byte).is_ok()
 }
 
 // Whether each byte of a row is that of a code.
@@ -51,7 +51,7 @@ fn are_codes(row: &[u8]) -> bool
 fn code_of(byte: u8) -> Code
     ensures { result ≡ read_code byte }
 {
-    Code::from_byte(byte).unwrap_or(Code::Stop)
+    Code::try_from(byte).unwrap_or(Code::Stop)
 }
 
 // The first break known once interval j with its code was looked at; `known` is the first behind it.
