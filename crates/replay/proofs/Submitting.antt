@@ -11,7 +11,7 @@ use Rattle.rules.specs.Rules.{Lawful}
 use Rattle.rows.specs.Drawings.{Drawing, lengths_of, track_drawn}
 use Rattle.rows.specs.Targets.{mark_of}
 use Rattle.rows.specs.Passing.{codes_of}
-use Rattle.rows.specs.WorkingOut.{Asked}
+use Rattle.rows.specs.Asking.{Asked}
 use Rattle.rows.specs.Examining.{Passed, Failed}
 use Rattle.entering.specs.Faults.{first}
 use Rattle.sheet.specs.Sheets.{Tables, Pass, Sheet, drawn, closed, passed}

@@ -1,12 +1,14 @@
 mod Bytes
 pub mod Positions
-mod Marks
 pub mod Higher
 pub mod Grounds
 mod Settles
 mod Stopped
 mod Beside
+mod Stages
 mod Looks
+mod Broken
+mod Refused
 pub mod Verdicts
 mod Lacks
 pub mod Single

@@ -1,27 +1,19 @@
 -- The highest code of an interval is the highest within its five caps. Assumes nothing.
-use Rattle.std.proofs.Common.{◌≡◌, ℕ, suc, ◌+◌, ◌<◌, ◌≤◌, Bool, not, ◌↔◌, List, length, get_or, set, Decides, unwrap_or, sym, ap, ◌∙◌, subst, arith, ltb-false, le-ltb}
+use Rattle.std.proofs.Common.{◌≡◌, ℕ, suc, ◌<◌, ◌≤◌, Bool, ◌↔◌, List, length, get_or, set, Decides, unwrap_or, sym, ap, ◌∙◌, subst, arith}
 use native.Mathlib.Decide.{ℕ_discrete}
-use Rattle.std.proofs.lemmas.Bool.{not-true, not_from_false}
 use Rattle.std.proofs.lemmas.List.{length-map, length-set, map-set, get_or-set_same, get_or-set_other}
 use Rattle.codes.specs.declared.speeds.Code.{Code}
 use Rattle.codes.specs.declared.speeds.Code.TheVariants.{Stop}
-use Rattle.codes.specs.Speeds.{byte, lower, code_of}
+use Rattle.codes.specs.Speeds.{byte, code_of}
 use Rattle.codes.proofs.Numbered.{code_back}
-use Rattle.laws.specs.Books.{Emergencies, Services, Distances}
-use Rattle.rules.specs.declared.lines.Line.{Line}
+use Rattle.laws.specs.Books.{Emergencies, Services}
 use Rattle.rules.specs.Tracks.{Track, Mark}
 use Rattle.rules.specs.Rules.{Allowed}
 use Rattle.rules.specs.Searching.{UpTo}
-use Rattle.rows.specs.declared.targets.Target.{Target}
-use Rattle.rows.specs.declared.passing.Pass.{Pass}
 use Rattle.rows.specs.declared.passing.FiveCaps.{FiveCaps}
-use Rattle.rows.specs.Drawings.{lengths_of}
-use Rattle.rows.specs.Targets.{track_of, mark_of, HeldBy}
-use Rattle.rows.specs.Finding.{HighestAt, FoundFrom, Reached}
-use Rattle.rows.specs.Passing.{Stage, Five, WithinFive, read_code, codes_of}
+use Rattle.rows.specs.Finding.{HighestAt, FoundFrom}
+use Rattle.rows.specs.Passing.{Five, WithinFive, read_code, codes_of}
 use Rattle.rows.specs.WorkingOut.{Spells}
-use Rattle.rows.proofs.Grounds.{reached_none}
-use Rattle.rows.proofs.Beside.{stands}
 
 pub read_back : (b : ℕ) (c : Code) → b ≡ byte c → read_code b ≡ c
 read_back b c e = ap (λ n. unwrap_or (code_of n) Stop) e ∙ ap (λ o. unwrap_or o Stop) (code_back c)
@@ -44,11 +36,8 @@ module _ (track : Track) (mark : Mark) (E : Emergencies) (D : Services) where
     }
 
     -- whether a code is allowed, by the highest one
-    pub allowed_decided : (top c : Code) → UpTo (WithinFive caps) top → (b : Bool) → b ≡ lower top c → Decides (not b) (Allowed track mark E D j c w)
-    allowed_decided top c up b e = (
-      λ passes. (allowed_within c).1 ((up c).1 (ltb-false (byte top) (byte c) (sym e ∙ not-true b passes))),
-      λ allowed. not_from_false b (e ∙ le-ltb (byte top) (byte c) ((up c).0 ((allowed_within c).0 allowed))),
-    )
+    pub allowed_decided : (top c : Code) → UpTo (WithinFive caps) top → (b : Bool) → Decides b (byte c ≤ byte top) → Decides b (Allowed track mark E D j c w)
+    allowed_decided top c up b decided = (λ passes. (allowed_within c).1 ((up c).1 (decided.0 passes)), λ allowed. decided.1 ((up c).0 ((allowed_within c).0 allowed)))
 
   -- no interval has its code yet, and one more has
   pub found_none : (bytes : List ℕ) → length bytes ≡ mark.interval → FoundFrom track mark E D (length bytes) (codes_of bytes)
@@ -74,6 +63,14 @@ module _ (track : Track) (mark : Mark) (E : Emergencies) (D : Services) where
           subst (λ c. HighestAt track mark E D (suc n) c (get_or (set (codes_of bytes) n code) (suc n) Stop)) (sym (get_or-set_same (codes_of bytes) n code Stop room))
           (subst (HighestAt track mark E D (suc n) code) (sym (get_or-set_other (codes_of bytes) n (suc n) code Stop (λ x. omega arith))) highest)
 
+  -- the interval at hand gets the highest code within its caps
+  pub row_more : (n i j : ℕ) (bytes : List ℕ) (b : ℕ) (code w : Code) (caps : FiveCaps) → i ≡ suc n → j ≡ i → w ≡ get_or (codes_of bytes) i Stop
+      → Five track mark E D j w caps → UpTo (WithinFive caps) code → suc n ≤ length bytes → b ≡ byte code → FoundFrom track mark E D i (codes_of bytes) → FoundFrom track mark E D n (codes_of (set bytes n b))
+  row_more n i j bytes b code w caps here at next five up within e found =
+      found_more n bytes b code (subst (λ k. FoundFrom track mark E D k (codes_of bytes)) here found) within e
+      (subst (λ k. HighestAt track mark E D k code (get_or (codes_of bytes) k Stop)) (at ∙ here)
+      (subst (HighestAt track mark E D j code) (next ∙ ap (λ k. get_or (codes_of bytes) k Stop) (sym at)) (highest_from_five j w caps five code up)))
+
   pub code_set : (n : ℕ) (bytes : List ℕ) (b : ℕ) (code : Code) → suc n ≤ length bytes → b ≡ byte code → get_or (codes_of (set bytes n b)) n Stop ≡ code
   code_set n bytes b code within e =
       ap (λ cs. get_or cs n Stop) (map-set read_code bytes n b ∙ ap (set (codes_of bytes) n) (read_back b code e))
@@ -87,12 +84,3 @@ spells_more n bytes b code within e spells k low high =
           let there = spells k (omega arith) (let same = length-set bytes n b in omega arith) in
           (there.0, get_or-set_other bytes n k b 0 (λ x. further (sym x)) ∙ there.1)
     ]
-
--- the pass at the mark's interval
-pub stage_none : (line : Line) (target : Target) → HeldBy line.start (lengths_of line.intervals.now) target.position target.held → (E : Emergencies) (D : Services) → Distances E D → (pass : Pass) → pass.first ≡ target.held.interval + 1 → pass.end ≡ target.held.end → Stage line target E D target.held.interval pass
-stage_none line target held E D distances pass first end = record {
-  within = omega arith;
-  ends = end ∙ held.end_is;
-  next_ends = λ less. absurd (omega arith);
-  reached = subst (Reached (track_of line) (mark_of target) E D target.held.interval) (let e : suc target.held.interval ≡ pass.first = omega arith in e) (reached_none (track_of line) (mark_of target) E D distances (stands line target held));
-}

@@ -11,14 +11,13 @@ use Rattle.laws.specs.Books.{Emergencies, Services}
 use Rattle.rules.specs.Tracks.{Track, Mark, begin_of, class_over}
 use Rattle.rules.specs.Rules.{Rule, rule_number, code_at, train_length}
 use Rattle.rules.specs.Rows.{AtMost, Highest, Breaks}
-use Rattle.rows.specs.declared.targets.Target.{Target}
 use Rattle.rows.specs.declared.letters.StopLetter.{StopLetter}
 use Rattle.rows.specs.Drawings.{Drawing, track_drawn}
 use Rattle.rows.specs.Targets.{mark_of}
 use Rattle.rows.specs.Passing.{read_code, codes_of}
-use Rattle.rows.specs.WorkingOut.{Spells, letter_of, FirstOfGround, Grounded, Asked, Worked}
+use Rattle.rows.specs.WorkingOut.{Spells, letter_of, FirstOfGround, Grounded, Worked}
 use Rattle.rows.specs.Examining.{Passed}
-use Rattle.rows.proofs.Verdicts.{located_same, speed_same, obeys_from_allowed}
+use Rattle.rows.proofs.Verdicts.{same_asked, obeys_from_allowed}
 
 -- ---- rows
 
@@ -71,21 +70,15 @@ module _ (track : Track) (mark : Mark) (E : Emergencies) (D : Services) where
 -- ---- answers
 
 module _ (drawing : Drawing) (number approach : ℕ) where
-  -- the mark and the approach code are one target and one speed: what holds of them holds of them wherever they are asked for
-  pub same_asked : {t u : Target} {v w : Speed} (P : Target → Speed → Type 0) → Asked drawing number approach t v → Asked drawing number approach u w → P t v → P u w
-  same_asked {t} {u} {v} {w} P asked asked' p =
-      subst (P u) (speed_same approach v w asked.approaches asked'.approaches)
-      (subst (λ x. P x v) (located_same drawing number t u asked.located asked'.located) p)
-
   module _ (E : Emergencies) (D : Services) where
     pub passed_same : (bytes : List ℕ) (one other : Passed drawing number approach E D bytes) → (one.target ≡ other.target) × (one.speed ≡ other.speed)
-    passed_same bytes one other = same_asked (λ t v. (one.target ≡ t) × (one.speed ≡ v)) one.asked other.asked (refl, refl)
+    passed_same bytes one other = same_asked drawing number approach (λ t v. (one.target ≡ t) × (one.speed ≡ v)) one.asked other.asked (refl, refl)
 
     pub worked_same : (row row' : List ℕ) (letter letter' : StopLetter) (place place' : ℕ) → Worked drawing number approach E D row letter place
         → Worked drawing number approach E D row' letter' place' → (row ≡ row') × (letter ≡ letter') × (place ≡ place')
     worked_same row row' letter letter' place place' one other =
-        let highest = same_asked (λ t v. Highest (track_drawn drawing) (mark_of t) E D v (codes_of row)) one.asked other.asked one.highest in
-        let ground = same_asked (λ t v. Grounded drawing t E D letter place) one.asked other.asked one.ground in
+        let highest = same_asked drawing number approach (λ t v. Highest (track_drawn drawing) (mark_of t) E D v (codes_of row)) one.asked other.asked one.highest in
+        let ground = same_asked drawing number approach (λ t v. Grounded drawing t E D letter place) one.asked other.asked one.ground in
         let at : place ≡ place' = ground_same (track_drawn drawing) (mark_of other.target) E D place place' ground.first other.ground.first in (
           highest_same (track_drawn drawing) (mark_of other.target) E D other.speed row row' one.spelt other.spelt highest other.highest,
           ground.tells ∙ ap (λ p. letter_of (class_over (track_drawn drawing) (begin_of (track_drawn drawing) p - train_length) other.target.position)) at ∙ sym other.ground.tells,

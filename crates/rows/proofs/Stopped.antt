@@ -1,9 +1,9 @@
 -- An interval to which the limits leave nothing but stop. Assumes nothing.
-use Rattle.std.proofs.Common.{◌≡◌, ℕ, ◌≤◌, ◌↔◌, refl, arith}
+use Rattle.std.proofs.Common.{◌≡◌, ℕ, ◌≤◌, ◌↔◌, refl, ap, arith}
 use Rattle.codes.specs.declared.speeds.Speed.{Speed}
 use Rattle.codes.specs.declared.speeds.Code.{Code}
 use Rattle.codes.specs.declared.speeds.Code.TheVariants.{Stop, Go}
-use Rattle.codes.specs.Speeds.{kmh}
+use Rattle.codes.specs.Speeds.{kmh, byte}
 use Rattle.laws.specs.Books.{Emergencies, Services}
 use Rattle.rules.specs.declared.places.Limits.{Limits}
 use Rattle.rules.specs.Tracks.{Track, Mark}
@@ -15,12 +15,13 @@ use Rattle.rows.specs.Passing.{OnlyStop}
 some_kmh : (v : Speed) → 30 ≤ kmh v
 some_kmh v = grind arith
 
-pub only_stop_from_stop : (limits : Limits) → UpTo (Within limits) Stop → OnlyStop limits
-only_stop_from_stop limits up Stop within = refl
-only_stop_from_stop limits up (Go v) within = absurd (let le = (up (Go v)).0 within in let some = some_kmh v in omega arith)
+module _ (limits : Limits) (top : Code) (up : UpTo (Within limits) top) where
+  pub only_stop_from_top : top ≡ Stop → OnlyStop limits
+  only_stop_from_top e Stop within = refl
+  only_stop_from_top e (Go v) within = absurd (let le = (up (Go v)).0 within in let some = some_kmh v in let none = ap byte e in omega arith)
 
-pub not_only_stop_from_go : (limits : Limits) (v : Speed) → UpTo (Within limits) (Go v) → OnlyStop limits → ⊥
-not_only_stop_from_go limits v up only = let stop = only (Go v) ((up (Go v)).1 (omega arith)) in let z : ◌≡◌ {A = ℕ} 0 1 = cc in omega arith
+  pub top_from_only_stop : OnlyStop limits → top ≡ Stop
+  top_from_only_stop only = only top ((up top).1 (omega arith))
 
 module _ (track : Track) (mark : Mark) (E : Emergencies) (D : Services) (j : ℕ) (limits : Limits) (caps : Caps track mark E D j limits) where
   pub fits_within : (c : Code) → Fits track mark E D j c ↔ Within limits c

@@ -17,8 +17,9 @@ use Rattle.rows.specs.Drawings.{Drawing, track_drawn, lengths_of}
 use Rattle.rows.specs.Targets.{mark_of, marked, HeldBy, LocatedAt, Absent}
 use Rattle.rows.specs.Passing.{read_code, codes_of}
 use Rattle.rows.specs.declared.letters.StopLetter.{StopLetter}
+use Rattle.rows.specs.Asking.{Asked, Unasked, absent, slow, missized}
 use Rattle.rows.specs.WorkingOut.{Worked}
-use Rattle.rows.specs.Examining.{Passed, Failed, absent, slow, size, strange, unlawful}
+use Rattle.rows.specs.Examining.{Passed, Failed, unasked, strange, unlawful}
 use Rattle.rules.proofs.Moved.{moved_rises}
 
 -- ---- where a mark stands
@@ -82,6 +83,20 @@ speed_same approach one other e f = let same : Some one ≡ Some other = sym e �
 pub not_slow : (approach : ℕ) (speed : Speed) → speed_of approach ≡ Some speed → speed_of approach ≡ None → ⊥
 not_slow approach speed some none = let told : Some speed ≡ None = sym some ∙ none in let z : ◌≡◌ {A = ℕ} 0 1 = cc in omega arith
 
+-- the mark and the approach code are one target and one speed: what holds of them holds of them wherever they are asked for
+pub same_asked : (drawing : Drawing) (number approach : ℕ) {t u : Target} {v w : Speed} (P : Target → Speed → Type 0) → Asked drawing number approach t v → Asked drawing number approach u w → P t v → P u w
+same_asked drawing number approach {t} {u} {v} {w} P asked asked' p =
+    subst (P u) (speed_same approach v w asked.approaches asked'.approaches)
+    (subst (λ x. P x v) (located_same drawing number t u asked.located asked'.located) p)
+
+-- what is asked for in order is not refused
+pub not_unasked_from_asked : (drawing : Drawing) (number approach size : ℕ) (target : Target) (speed : Speed) → Asked drawing number approach target speed → size ≡ target.held.interval
+    → (why : ℕ × List ℕ) → Unasked drawing number approach size why → ⊥
+not_unasked_from_asked drawing number approach size target speed asked sized why (absent none) = not_absent_from_located drawing number target asked.located none
+not_unasked_from_asked drawing number approach size target speed asked sized why (slow other located none) = not_slow approach speed asked.approaches none
+not_unasked_from_asked drawing number approach size target speed asked sized why (missized other v asked' apart) =
+    apart (same_asked drawing number approach (λ t v. size ≡ t.held.interval) asked asked' sized)
+
 -- ---- a pass excludes a refusal
 
 pub obeys_from_allowed : (track : Track) (mark : Mark) (E : Emergencies) (D : Services) (j : ℕ) (c w : Code) → Allowed track mark E D j c w → (rule : Rule) → Obeys track mark E D j c w rule
@@ -100,17 +115,11 @@ module _ (drawing : Drawing) (number approach : ℕ) (E : Emergencies) (D : Serv
   passed_size passed = sym (length-map bytes read_code) ∙ passed.lawful.size
 
   pub not_failed_from_passed : (why : ℕ × List ℕ) → Passed drawing number approach E D bytes → Failed drawing number approach E D bytes why → ⊥
-  not_failed_from_passed why passed (absent none) = not_absent_from_located drawing number passed.target passed.asked.located none
-  not_failed_from_passed why passed (slow target located none) = not_slow approach passed.speed passed.asked.approaches none
-  not_failed_from_passed why passed (size target speed asked other) =
-      other (passed_size passed ∙ ap (λ (t : Target). t.held.interval) (located_same drawing number passed.target target passed.asked.located asked.located))
+  not_failed_from_passed why passed (unasked told due) = not_unasked_from_asked drawing number approach (length bytes) passed.target passed.speed passed.asked (passed_size passed) told due
   not_failed_from_passed why passed (strange target speed asked long other) = other passed.spelt
   not_failed_from_passed why passed (unlawful target speed asked long spelt j rule breaks) =
-      let same_target = located_same drawing number passed.target target passed.asked.located asked.located in
-      let same_speed = speed_same approach passed.speed speed passed.asked.approaches asked.approaches in
-      let by-speed = subst (λ v. Lawful (track_drawn drawing) (mark_of passed.target) E D v (codes_of bytes)) same_speed passed.lawful in
-      let by-target = subst (λ t. Lawful (track_drawn drawing) (mark_of t) E D speed (codes_of bytes)) same_target by-speed in
-      not_breaks_from_lawful (track_drawn drawing) (mark_of target) E D speed (codes_of bytes) j rule by-target breaks
+      not_breaks_from_lawful (track_drawn drawing) (mark_of target) E D speed (codes_of bytes) j rule
+      (same_asked drawing number approach (λ t v. Lawful (track_drawn drawing) (mark_of t) E D v (codes_of bytes)) passed.asked asked passed.lawful) breaks
 
   -- what was worked out passes
   pub passed_from_worked : (letter : StopLetter) (place : ℕ) → Worked drawing number approach E D bytes letter place → Passed drawing number approach E D bytes

@@ -1,14 +1,17 @@
 -- What examining a row answers. Assumes nothing.
 --     Broken caps c n            rule n is the first whose cap is below code c
+--     broken_number caps c       the number of that rule, if there is one
 --     Looked caps c j before r   interval j with code c was looked at: r is its first broken rule, else what was known before
 --     Known .. j r               r is the first break among the intervals behind the j-th, if there is one
 --     Examined .. r              r is a pass of a lawful row, or the first refusal that is due
-use Rattle.std.specs.Prelude.{◌≡◌, ℕ, ◌<◌, ◌≤◌, List, [], ◌∷◌, length, Some, None, Ok, Err, Option, Result, ◌≢◌, slice_index_or}
+use Rattle.std.specs.Prelude.{◌≡◌, ℕ, ◌<◌, ◌≤◌, List, [], ◌∷◌, length, Some, None, Ok, Err, Option, Result, slice_index_or, nat_lt}
+use Rattle.std.specs.List.{find}
+use Rattle.std.specs.Option.{option_map}
 use Rattle.codes.specs.declared.speeds.Speed.{Speed}
 use Rattle.codes.specs.declared.speeds.Code.{Code}
 use Rattle.codes.specs.declared.speeds.Code.TheVariants.{Stop}
 use Rattle.codes.specs.declared.refusals.Refusal.{Refusal}
-use Rattle.codes.specs.Speeds.{byte, speed_of}
+use Rattle.codes.specs.Speeds.{byte}
 use Rattle.codes.specs.Refusals.{notice}
 use Rattle.laws.specs.Books.{Emergencies, Services}
 use Rattle.rules.specs.Tracks.{Track, Mark}
@@ -18,9 +21,10 @@ use Rattle.rows.specs.declared.targets.Target.{Target}
 use Rattle.rows.specs.declared.passing.FiveCaps.{FiveCaps}
 use Rattle.rows.specs.declared.breaks.Break.{Break}
 use Rattle.rows.specs.Drawings.{Drawing, track_drawn}
-use Rattle.rows.specs.Targets.{mark_of, LocatedAt, Absent}
+use Rattle.rows.specs.Targets.{mark_of}
+use Rattle.rows.specs.Asking.{Asked, Unasked}
 use Rattle.rows.specs.Passing.{WithinFive, codes_of}
-use Rattle.rows.specs.WorkingOut.{Spells, Asked}
+use Rattle.rows.specs.WorkingOut.{Spells}
 
 -- the cap of a rule
 abbrev pub cap : FiveCaps → Rule → Code
@@ -35,6 +39,14 @@ pub record Broken (caps : FiveCaps) (c : Code) (n : ℕ) : Type 0 where
   pub numbered : rule_number rule ≡ n
   pub above : byte (cap caps rule) < byte c
   pub before : (other : Rule) → rule_number other < rule_number rule → byte c ≤ byte (cap caps other)
+
+-- the caps by the numbers of their rules, in the order in which the rules are tried
+abbrev pub caps_by_number : FiveCaps → List (ℕ × Code)
+caps_by_number caps = (1, caps.four.touching) ∷ (2, caps.four.ahead) ∷ (3, caps.four.service) ∷ (4, caps.four.stopping) ∷ (5, caps.next) ∷ []
+
+-- the number of the first rule whose cap is below code c
+abbrev pub broken_number : FiveCaps → Code → Option ℕ
+broken_number caps c = option_map (λ (by_number : ℕ × Code). by_number.0) (find (λ (by_number : ℕ × Code). nat_lt (byte by_number.1) (byte c)) (caps_by_number caps))
 
 abbrev pub FirstBroken : FiveCaps → Code → Option ℕ → Type 0
 FirstBroken caps c None = WithinFive caps c
@@ -69,11 +81,9 @@ pub record Passed (drawing : Drawing) (number approach : ℕ) (E : Emergencies) 
   pub spelt : Spells 0 bytes
   pub lawful : Lawful (track_drawn drawing) (mark_of target) E D speed (codes_of bytes)
 
--- 8 for the mark, 4 for the approach code, 10 for the size of the row, 11 for a byte that is no code, and 12 for the first break
+-- the refusals by what is asked for, 11 for a byte that is no code, and 12 for the first break
 pub data Failed (drawing : Drawing) (mark_number approach : ℕ) (E : Emergencies) (D : Services) (bytes : List ℕ) : ℕ × List ℕ → Type 0 where
-  absent : Absent drawing mark_number → Failed drawing mark_number approach E D bytes (8, [])
-  slow : (target : Target) → LocatedAt drawing mark_number target → speed_of approach ≡ None → Failed drawing mark_number approach E D bytes (4, [])
-  size : (target : Target) (speed : Speed) → Asked drawing mark_number approach target speed → (length bytes ≢ target.held.interval) → Failed drawing mark_number approach E D bytes (10, [])
+  unasked : (why : ℕ × List ℕ) → Unasked drawing mark_number approach (length bytes) why → Failed drawing mark_number approach E D bytes why
   strange : (target : Target) (speed : Speed) → Asked drawing mark_number approach target speed → length bytes ≡ target.held.interval → (Spells 0 bytes → ⊥) → Failed drawing mark_number approach E D bytes (11, [])
   unlawful : (target : Target) (speed : Speed) → Asked drawing mark_number approach target speed → length bytes ≡ target.held.interval → Spells 0 bytes → (j : ℕ) (rule : Rule) → Breaks (track_drawn drawing) (mark_of target) E D speed (codes_of bytes) j rule → Failed drawing mark_number approach E D bytes (12, j ∷ rule_number rule ∷ [])
 

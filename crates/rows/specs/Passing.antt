@@ -1,9 +1,9 @@
 -- A pass over the intervals of a line, from the mark's back to the approach. Assumes nothing.
---     Stage line target E D j pass    all intervals behind the j-th were passed, and the pass stands at interval j
+--     Stage line target E D pass    all intervals behind the one at which the pass stands were passed
 --     Five .. j w caps                the codes of interval j that obey a rule before code w are those up to its cap
 --     OnlyStop limits                 stop is the only code within the limits
 --     WithinFive caps c               the code is above none of the five caps
---     Joins first j limits r          the stop ground from first on begins at r once interval j was passed
+--     Joins pass limits (first, ground)    the stop ground begins with interval first, at ground, once the pass's interval was passed
 --     read_code b, codes_of bytes     the codes of a row's bytes
 use Rattle.std.specs.Prelude.{◌≡◌, ℕ, suc, ◌<◌, ◌≤◌, List, map, ◌≢◌}
 use Rattle.std.specs.Option.{unwrap_or}
@@ -12,7 +12,7 @@ use Rattle.codes.specs.declared.speeds.Code.TheVariants.{Stop}
 use Rattle.codes.specs.Speeds.{byte, code_of}
 use Rattle.laws.specs.Books.{Emergencies, Services}
 use Rattle.rules.specs.declared.lines.Line.{Line}
-use Rattle.rules.specs.Tracks.{Track, Mark, end_of}
+use Rattle.rules.specs.Tracks.{Track, Mark, begin_of, end_of}
 use Rattle.rules.specs.Rules.{Next}
 use Rattle.rules.specs.Searching.{UpTo}
 use Rattle.rules.specs.declared.places.Limits.{Limits}
@@ -23,11 +23,13 @@ use Rattle.rows.specs.declared.passing.FiveCaps.{FiveCaps}
 use Rattle.rows.specs.Targets.{track_of, mark_of}
 use Rattle.rows.specs.Finding.{Reached}
 
-pub record Stage (line : Line) (target : Target) (E : Emergencies) (D : Services) (j : ℕ) (pass : Pass) : Type 0 where
-  pub within : j ≤ target.held.interval
-  pub ends : pass.end ≡ end_of (track_of line) j
-  pub next_ends : j < target.held.interval → pass.next_end ≡ end_of (track_of line) (suc j)
-  pub reached : Reached (track_of line) (mark_of target) E D j pass.first
+pub record Stage (line : Line) (target : Target) (E : Emergencies) (D : Services) (pass : Pass) : Type 0 where
+  pub within : pass.interval ≤ target.held.interval
+  pub begins : pass.begin ≡ begin_of (track_of line) pass.interval
+  pub ends : pass.end ≡ end_of (track_of line) pass.interval
+  pub next_ends : pass.interval < target.held.interval → pass.next_end ≡ end_of (track_of line) (suc pass.interval)
+  pub reached : Reached (track_of line) (mark_of target) E D pass.interval pass.first
+  pub ground : pass.ground ≡ begin_of (track_of line) pass.first
 
 pub record Five (track : Track) (mark : Mark) (E : Emergencies) (D : Services) (j : ℕ) (w : Code) (caps : FiveCaps) : Type 0 where
   pub four : Caps track mark E D j caps.four
@@ -37,9 +39,9 @@ pub record Five (track : Track) (mark : Mark) (E : Emergencies) (D : Services) (
 abbrev pub OnlyStop : Limits → Type 0
 OnlyStop limits = (c : Code) → Within limits c → c ≡ Stop
 
-pub data Joins (first j : ℕ) (limits : Limits) : ℕ → Type 0 where
-  joined : first ≡ suc j → OnlyStop limits → Joins first j limits j
-  kept : (OnlyStop limits → first ≢ suc j) → Joins first j limits first
+pub data Joins (pass : Pass) (limits : Limits) : ℕ × ℕ → Type 0 where
+  joined : pass.first ≡ suc pass.interval → OnlyStop limits → Joins pass limits (pass.interval, pass.begin)
+  kept : (OnlyStop limits → pass.first ≢ suc pass.interval) → Joins pass limits (pass.first, pass.ground)
 
 -- a code above none of the five
 abbrev pub WithinFive : FiveCaps → Code → Type 0

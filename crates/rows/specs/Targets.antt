@@ -3,7 +3,8 @@
 --     marked marks n           the first of the marks with number n
 --     Holds start lengths position r    r is the interval in which a position lies, if there is one
 --     Located drawing n r         r is where mark n stands; else it is refused by 8
-use Rattle.std.specs.Prelude.{◌≡◌, ℕ, ◌-◌, ◌<◌, ◌≤◌, cond, List, [], ◌∷◌, length, Some, None, Ok, Err, Option, Result, ◌==◌}
+use Rattle.std.specs.Prelude.{◌≡◌, ℕ, ◌-◌, ◌<◌, ◌≤◌, List, [], length, Some, None, Ok, Err, Option, Result, ◌==◌}
+use Rattle.std.specs.List.{find}
 use Rattle.codes.specs.declared.refusals.Refusal.{Refusal}
 use Rattle.codes.specs.Refusals.{notice}
 use Rattle.rules.specs.declared.lines.Line.{Line}
@@ -18,8 +19,7 @@ abbrev pub track_of : Line → Track
 track_of line = track_drawn (drawing_of line)
 
 abbrev pub marked : List StopMark → ℕ → Option StopMark
-marked [] number = None
-marked (mark ∷ marks) number = cond (mark.number == number) (Some mark) (marked marks number)
+marked marks number = find (λ (mark : StopMark). mark.number == number) marks
 
 -- where an interval begins and ends, and the position between
 pub record HeldBy (start : ℕ) (lengths : List ℕ) (position : ℕ) (held : Held) : Type 0 where

@@ -12,7 +12,8 @@ use Rattle.rows.specs.declared.targets.Target.{Target}
 use Rattle.rows.specs.declared.letters.StopLetter.{StopLetter}
 use Rattle.rows.specs.declared.failures.Failure.{Failure}
 use Rattle.rows.specs.declared.failures.Failure.TheVariants.{Refused, Memory}
-use Rattle.rows.specs.WorkingOut.{Asked, Worked, Unworked}
+use Rattle.rows.specs.Asking.{Asked}
+use Rattle.rows.specs.WorkingOut.{Worked, Unworked}
 use Rattle.rows.specs.Examining.{Passed}
 
 abbrev pub WorkedOut : Drawing → ℕ → ℕ → Emergencies → Services → List ℕ → Result (StopLetter × ℕ) Failure → List ℕ → Type 0

@@ -1,103 +1,83 @@
 // Examining a row of codes that was drawn up elsewhere.
-ghost use Rattle.std.specs.Prelude.{◌≡◌, ℕ, ◌+◌, ◌-◌, ◌<◌, ◌≤◌, length, is_some, Decides};
+ghost use Rattle.std.specs.Prelude.{◌≡◌, length, is_some};
+ghost use Rattle.std.specs.List.{list_all};
 ghost use Rattle.codes.specs.Speeds.{code_of};
-ghost use Rattle.rules.specs.Rules.{code_at};
-ghost use Rattle.rows.specs.Drawings.{drawing_of, lengths_of};
-ghost use Rattle.rows.specs.Targets.{track_of, mark_of, HeldBy};
-ghost use Rattle.rows.specs.Passing.{Stage, Five, codes_of, read_code};
-ghost use Rattle.rows.specs.WorkingOut.{Spells};
-ghost use Rattle.rows.specs.Examining.{FirstBroken, Looked, Known, Examined};
+ghost use Rattle.rows.specs.Drawings.{drawing_of};
+ghost use Rattle.rows.specs.Targets.{track_of, mark_of};
+ghost use Rattle.rows.specs.Passing.{codes_of, read_code};
+ghost use Rattle.rows.specs.Examining.{broken_number, Looked, Known, Examined};
 
+use super::asking::asked_for;
 use super::breaks::Break;
-use super::passing::{FiveCaps, Pass, begin_of, caps_at, further, started};
-use super::targets::{Target, locate};
+use super::passing::FiveCaps;
+use super::survey::Survey;
 use books::BrakingBook;
 use codes::{Code, Refusal, Speed};
 use rules::Line;
 
 // The number of the first rule whose cap is below the code, in the order in which the rules are tried.
 fn broken_rule(caps: &FiveCaps, code: Code) -> Option<u8>
-    ensures { FirstBroken caps.now code result }
+    ensures { result ≡ broken_number caps.now code }
 {
-    if caps.four.touching.is_below(code) {
-        return Some(1);
-    }
-    if caps.four.ahead.is_below(code) {
-        return Some(2);
-    }
-    if caps.four.service.is_below(code) {
-        return Some(3);
-    }
-    if caps.four.stopping.is_below(code) {
-        return Some(4);
-    }
-    if caps.next.is_below(code) {
-        return Some(5);
-    }
-    None
+    let four = &caps.four;
+    let by_rule = [
+        (1, four.touching),
+        (2, four.ahead),
+        (3, four.service),
+        (4, four.stopping),
+        (5, caps.next),
+    ];
+    by_rule
+        .iter()
+        .find(|by_rule| by_rule.1 < code)
+        .map(|by_rule| by_rule.0)
 }
 
 // Whether a byte is that of a code.
 fn is_code(byte: u8) -> bool
     ensures { result ≡ is_some (code_of byte) }
 {
-    Code::from_byte(byte).is_some()
+    Code::try_from(byte).is_ok()
 }
 
 // Whether each byte of a row is that of a code.
 fn are_codes(row: &[u8]) -> bool
-    ensures { Decides result (Spells 0 row.now) }
+    ensures { result ≡ list_all (λ byte. is_some (code_of byte)) row.now }
 {
-    for byte in row {
-        if !is_code(*byte) {
-            return false;
-        }
-    }
-    true
+    row.iter().all(|byte| is_code(*byte))
 }
 
 // The code of a byte; stop where it is no code.
 fn code_of(byte: u8) -> Code
     ensures { result ≡ read_code byte }
 {
-    Code::from_byte(byte).unwrap_or(Code::Stop)
+    Code::try_from(byte).unwrap_or(Code::Stop)
 }
 
 // The first break known once interval j with its code was looked at; `known` is the first behind it.
 fn looked_at(caps: &FiveCaps, code: Code, j: usize, known: Option<Break>) -> Option<Break>
     ensures { Looked caps.now code j known result }
 {
-    match broken_rule(caps, code) {
-        Some(rule) => Some(Break { interval: j, rule }),
-        None => known,
-    }
+    broken_rule(caps, code)
+        .map(|rule| Break { interval: j, rule })
+        .or(known)
 }
 
 // The first break of a row, from the approach on. One pass goes from the mark's interval back, so that the stop ground is known
 // before an interval is judged.
-fn first_break<B: BrakingBook>(
-    line: &Line<'_>,
-    target: &Target,
-    book: &B,
-    approach: Speed,
-    row: &[u8],
-) -> Option<Break>
-    requires located { HeldBy line.now.start (lengths_of line.now.intervals.now) target.now.position target.now.held }
-    requires size { length row.now ≡ target.now.held.interval }
-    ensures { Known (track_of line.now) (mark_of target.now) (B.BrakingBook.emergencies book.now) (B.BrakingBook.services book.now) approach (codes_of row.now) 0 result }
+fn first_break<B: BrakingBook>(survey: &Survey<'_, B>, approach: Speed, row: &[u8]) -> Option<Break>
+    requires { length row.now ≡ survey.now.target.held.interval }
+    ensures { Known (track_of survey.now.line) (mark_of survey.now.target) (B.emergencies survey.now.book.now) (B.services survey.now.book.now) approach (codes_of row.now) 0 result }
 {
-    let mut pass = started(target);
+    let mut pass = survey.pass();
     let mut found = None;
-    for i in (0..row.len()).rev() {
-        let begin = begin_of(line, i + 1, pass.end);
-        let caps = caps_at(line, target, book, i + 1, begin, &pass);
-        let code = code_of(row[i]);
-        found = looked_at(&caps, code, i + 1, found);
-        pass = further(line, target, book, i + 1, begin, &pass, &caps, code);
+    for byte in row.iter().rev() {
+        let caps = survey.caps(&pass);
+        let code = code_of(*byte);
+        found = looked_at(&caps, code, pass.interval, found);
+        pass = survey.further(&pass, &caps, code);
     }
-    let begin = begin_of(line, 0, pass.end);
-    let caps = caps_at(line, target, book, 0, begin, &pass);
-    looked_at(&caps, Code::Go(approach), 0, found)
+    looked_at(&survey.caps(&pass), Code::Go(approach), 0, found)
 }
 
 // Examines a row before a stop mark: a pass exactly if the row is lawful. Refused by 8 (no such mark, or it stands in no interval),
@@ -112,24 +92,17 @@ pub fn examine<B: BrakingBook>(
 ) -> Result<(), Refusal>
     ensures { Examined (drawing_of line.now) mark approach (B.BrakingBook.emergencies book.now) (B.BrakingBook.services book.now) row.now result }
 {
-    let target = match locate(line, mark) {
-        Ok(target) => target,
-        Err(refusal) => return Err(refusal),
-    };
-    let Some(speed) = Speed::from_kmh(approach) else {
-        return Err(Refusal::Speed);
-    };
-    if row.len() != target.held.interval {
-        return Err(Refusal::Size);
-    }
+    let (target, speed) = asked_for(line, mark, approach, row)?;
     if !are_codes(row) {
         return Err(Refusal::Byte);
     }
-    match first_break(line, &target, book, speed, row) {
+    let survey = Survey {
+        line: *line,
+        target,
+        book,
+    };
+    match first_break(&survey, speed, row) {
         None => Ok(()),
-        Some(found) => Err(Refusal::Unlawful {
-            interval: found.interval,
-            rule: found.rule,
-        }),
+        Some(found) => Err(found.into()),
     }
 }

@@ -2,12 +2,14 @@
 
 #![tactic(auto)]
 
+mod asking;
 mod breaks;
 mod examining;
 mod failures;
 mod finding;
 mod letters;
 mod passing;
+mod survey;
 mod targets;
 mod working_out;
 

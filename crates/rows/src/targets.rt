@@ -7,7 +7,7 @@ use codes::Refusal;
 use rules::{Interval, Line, StopMark};
 
 // The interval in which a position lies: its place, counted from 1, and the positions where it begins and ends.
-#[derive(Clone, Copy)]
+#[derive(Clone, Copy, Debug, PartialEq, Eq)]
 pub struct Held {
     pub interval: usize,
     pub begin: u64,
@@ -15,7 +15,7 @@ pub struct Held {
 }
 
 // A stop mark with its interval.
-#[derive(Clone, Copy)]
+#[derive(Clone, Copy, Debug, PartialEq, Eq)]
 pub struct Target {
     pub position: u64,
     pub danger: u64,
@@ -26,12 +26,7 @@ pub struct Target {
 fn find_mark(marks: &[StopMark], number: u16) -> Option<StopMark>
     ensures { result ≡ marked marks.now number }
 {
-    for mark in marks {
-        if mark.number == number {
-            return Some(*mark);
-        }
-    }
-    None
+    marks.iter().copied().find(|mark| mark.number == number)
 }
 
 // Whether a position is not behind the end of an interval: the end still belongs to the interval.
@@ -68,15 +63,11 @@ fn holding(start: u32, intervals: &[Interval], position: u32) -> Option<Held>
 pub fn locate(line: &Line<'_>, number: u16) -> Result<Target, Refusal>
     ensures { Located (drawing_of line.now) number result }
 {
-    let Some(mark) = find_mark(line.marks, number) else {
-        return Err(Refusal::Absent);
-    };
-    match holding(line.start, line.intervals, mark.position) {
-        None => Err(Refusal::Absent),
-        Some(held) => Ok(Target {
-            position: mark.position as u64,
-            danger: mark.danger as u64,
-            held,
-        }),
-    }
+    let mark = find_mark(line.marks, number).ok_or(Refusal::Absent)?;
+    let held = holding(line.start, line.intervals, mark.position).ok_or(Refusal::Absent)?;
+    Ok(Target {
+        position: mark.position as u64,
+        danger: mark.danger as u64,
+        held,
+    })
 }

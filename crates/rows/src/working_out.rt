@@ -1,37 +1,23 @@
 // Working out the highest row that a line allows before a stop mark.
-ghost use Rattle.std.specs.Prelude.{◌≡◌, ℕ, ◌+◌, ◌-◌, ◌<◌, ◌≤◌, length, if◌then◌else◌, Decides};
-ghost use Rattle.codes.specs.Speeds.{byte};
-ghost use Rattle.rules.specs.Tracks.{begin_of, end_of, class_over};
-ghost use Rattle.rules.specs.Rules.{train_length, Allowed};
-ghost use Rattle.rows.specs.Drawings.{drawing_of, lengths_of};
-ghost use Rattle.rows.specs.Targets.{track_of, mark_of, HeldBy};
+ghost use Rattle.std.specs.Prelude.{◌≡◌, ◌-◌, length, if◌then◌else◌, Decides};
+ghost use Rattle.rules.specs.Rules.{Allowed};
+ghost use Rattle.rows.specs.Drawings.{drawing_of};
+ghost use Rattle.rows.specs.Targets.{track_of, mark_of};
+ghost use Rattle.rows.specs.Passing.{Stage};
 ghost use Rattle.rows.specs.WorkingOut.{letter_of, Settled, Grounded};
 ghost use Rattle.rows.specs.WorkedOut.{WorkedOut, Passing, Lacking};
-ghost use Rattle.rows.specs.Passing.{Stage};
 
+use super::asking::asked_for;
 use super::failures::Failure;
 use super::finding::{fill_row, highest_within};
 use super::letters::StopLetter;
-use super::passing::{Pass, begin_of, caps_at};
-use super::targets::{Target, locate};
+use super::passing::Pass;
+use super::survey::Survey;
 use books::BrakingBook;
 use codes::{Class, Code, Refusal, Speed};
 use ground::worst_over;
 use rules::Line;
 use std::alloc::Global;
-
-// Where the n-th interval ends, which lies before a known position.
-fn end_of(line: &Line<'_>, n: usize, limit: u64) -> u64
-    requires within { n ≤ length line.now.intervals.now }
-    requires known { end_of (track_of line.now) n ≤ limit }
-    ensures { result ≡ end_of (track_of line.now) n }
-{
-    let mut end = line.start as u64;
-    for i in 0..n {
-        end += line.intervals[i].length as u64;
-    }
-    end
-}
 
 // The letter of a class.
 fn letter_of(class: Class) -> StopLetter
@@ -45,20 +31,12 @@ fn letter_of(class: Class) -> StopLetter
 }
 
 // Whether the approach code is allowed before the row that was found.
-fn is_allowed<B: BrakingBook>(
-    line: &Line<'_>,
-    target: &Target,
-    book: &B,
-    pass: &Pass,
-    approach: Speed,
-) -> bool
-    requires located { HeldBy line.now.start (lengths_of line.now.intervals.now) target.now.position target.now.held }
-    requires stage { Stage line.now target.now (B.BrakingBook.emergencies book.now) (B.BrakingBook.services book.now) 0 pass.now }
-    ensures { Decides result (Allowed (track_of line.now) (mark_of target.now) (B.BrakingBook.emergencies book.now) (B.BrakingBook.services book.now) 0 (Code.Go approach) pass.now.next) }
+fn is_allowed<B: BrakingBook>(survey: &Survey<'_, B>, pass: &Pass, approach: Speed) -> bool
+    requires stage { Stage survey.now.line survey.now.target (B.emergencies survey.now.book.now) (B.services survey.now.book.now) pass.now }
+    requires approach { pass.now.interval ≡ 0 }
+    ensures { Decides result (Allowed (track_of survey.now.line) (mark_of survey.now.target) (B.emergencies survey.now.book.now) (B.services survey.now.book.now) 0 (Code.Go approach) pass.now.next) }
 {
-    let begin = begin_of(line, 0, pass.end);
-    let caps = caps_at(line, target, book, 0, begin, pass);
-    !highest_within(&caps).is_below(Code::Go(approach))
+    Code::Go(approach) <= highest_within(&survey.caps(pass))
 }
 
 // Copies the row that was found where it is lawful; else the row's bytes stay as they are.
@@ -71,41 +49,37 @@ fn copy_lawful(lawful: bool, row: &mut [u8], found: &[u8])
     }
 }
 
-// Finds the row in the memory lent and, where the approach code is allowed before it, copies it; answers the pass at the
-// approach, or none where no row is lawful.
+// The stop letter, and the place of the first interval of the stop ground.
+fn ground_told<B: BrakingBook>(survey: &Survey<'_, B>, pass: &Pass) -> (StopLetter, usize)
+    requires stage { Stage survey.now.line survey.now.target (B.emergencies survey.now.book.now) (B.services survey.now.book.now) pass.now }
+    requires approach { pass.now.interval ≡ 0 }
+    ensures { Grounded (drawing_of survey.now.line) survey.now.target (B.emergencies survey.now.book.now) (B.services survey.now.book.now) result.0 result.1 }
+{
+    let from = pass.ground.saturating_sub(170);
+    let class = worst_over(survey.line.gradients, from, survey.target.position);
+    (letter_of(class), pass.first)
+}
+
+// Finds the row in the memory lent and, where the approach code is allowed before it, copies it, and answers the stop letter and the
+// place of the first interval of the stop ground; refused by 13 where no row is lawful.
 fn settled<B: BrakingBook>(
-    line: &Line<'_>,
-    target: &Target,
-    book: &B,
+    survey: &Survey<'_, B>,
     approach: Speed,
     row: &mut [u8],
     found: &mut [u8],
-) -> Option<Pass>
-    requires located { HeldBy line.now.start (lengths_of line.now.intervals.now) target.now.position target.now.held }
-    requires size { length row.old ≡ target.now.held.interval }
-    requires room { length found.old ≡ target.now.held.interval }
-    ensures { Settled line.now target.now (B.BrakingBook.emergencies book.now) (B.BrakingBook.services book.now) approach row.old result row.new }
+) -> Result<(StopLetter, usize), Refusal>
+    requires size { length row.old ≡ survey.now.target.held.interval }
+    requires room { length found.old ≡ survey.now.target.held.interval }
+    ensures { Settled survey.now.line survey.now.target (B.emergencies survey.now.book.now) (B.services survey.now.book.now) approach row.old result row.new }
 {
-    let pass = fill_row(line, target, book, found);
-    let allowed = is_allowed(line, target, book, &pass, approach);
+    let pass = fill_row(survey, found);
+    let allowed = is_allowed(survey, &pass, approach);
     copy_lawful(allowed, row, found);
-    if allowed { Some(pass) } else { None }
-}
-
-// The stop letter, and the place of the first interval of the stop ground.
-fn ground_told<B: BrakingBook>(
-    line: &Line<'_>,
-    target: &Target,
-    book: &B,
-    pass: &Pass,
-) -> (StopLetter, usize)
-    requires located { HeldBy line.now.start (lengths_of line.now.intervals.now) target.now.position target.now.held }
-    requires stage { Stage line.now target.now (B.BrakingBook.emergencies book.now) (B.BrakingBook.services book.now) 0 pass.now }
-    ensures { Grounded (drawing_of line.now) target.now (B.BrakingBook.emergencies book.now) (B.BrakingBook.services book.now) result.0 result.1 }
-{
-    let begin = end_of(line, pass.first - 1, target.held.end);
-    let class = worst_over(line.gradients, begin.saturating_sub(170), target.position);
-    (letter_of(class), pass.first)
+    if allowed {
+        Ok(ground_told(survey, &pass))
+    } else {
+        Err(Refusal::NoRow)
+    }
 }
 
 // Works out the highest row before a stop mark: writes the code of each interval up to the mark's into the row's bytes, and answers
@@ -126,28 +100,21 @@ pub fn work_out_in<B: BrakingBook>(
     ensures passes { Passing (drawing_of line.now) mark approach (B.BrakingBook.emergencies book.now) (B.BrakingBook.services book.now) result row.new }
     ensures memory { Lacking (drawing_of line.now) mark approach row.old (length scratch.old) result }
 {
-    let target = match locate(line, mark) {
-        Ok(target) => target,
-        Err(refusal) => return Err(Failure::Refused(refusal)),
-    };
-    let Some(speed) = Speed::from_kmh(approach) else {
-        return Err(Failure::Refused(Refusal::Speed));
-    };
-    if row.len() != target.held.interval {
-        return Err(Failure::Refused(Refusal::Size));
-    }
-    if scratch.len() < target.held.interval {
+    let (target, speed) = asked_for(line, mark, approach, row)?;
+    if scratch.len() < row.len() {
         return Err(Failure::Memory);
     }
-    let found = &mut scratch[0..target.held.interval];
-    match settled(line, &target, book, speed, row, found) {
-        None => Err(Failure::Refused(Refusal::NoRow)),
-        Some(pass) => Ok(ground_told(line, &target, book, &pass)),
-    }
+    let survey = Survey {
+        line: *line,
+        target,
+        book,
+    };
+    let found = &mut scratch[..row.len()];
+    Ok(settled(&survey, speed, row, found)?)
 }
 
-// Works out the highest row before a stop mark as `work_out_in` does, in memory of its own. That is asked for first, so want of
-// memory can be the answer to any call; it leaves the row's bytes.
+// Works out the highest row before a stop mark as `work_out_in` does, in memory of its own, which is asked for after the first three
+// refusals. Want of memory leaves the row's bytes.
 pub fn work_out<B: BrakingBook>(
     heap: Global,
     line: &Line<'_>,
@@ -159,8 +126,12 @@ pub fn work_out<B: BrakingBook>(
     ensures cases { WorkedOut (drawing_of line.now) mark approach (B.BrakingBook.emergencies book.now) (B.BrakingBook.services book.now) row.old result row.new }
     ensures passes { Passing (drawing_of line.now) mark approach (B.BrakingBook.emergencies book.now) (B.BrakingBook.services book.now) result row.new }
 {
-    let Ok(mut scratch) = row.to_vec(heap) else {
-        return Err(Failure::Memory);
+    let (target, asked_speed) = asked_for(line, mark, approach, row)?;
+    let mut found = row.to_vec(heap)?;
+    let survey = Survey {
+        line: *line,
+        target,
+        book,
     };
-    work_out_in(line, mark, approach, book, row, scratch.as_mut_slice())
+    Ok(settled(&survey, asked_speed, row, found.as_mut_slice())?)
 }

@@ -1,90 +1,66 @@
-use Rattle.std.proofs.Common.{◌≡◌, suc, ◌+◌, ◌-◌, ◌<◌, length, get_or, sym, ap, ◌∙◌, subst, arith}
-use Rattle.std.proofs.lemmas.List.{get_or_past, get_or-map, length-map}
-use Rattle.codes.specs.declared.speeds.Code.TheVariants.{Stop}
-use Rattle.rules.specs.declared.lines.Interval.{Interval}
-use Rattle.rules.specs.Tracks.{end_of}
+use Rattle.std.proofs.Common.{◌≡◌, suc, length, get_or, sym, refl, ap, ◌∙◌, subst, arith}
+use Rattle.std.proofs.lemmas.List.{get_or_past, length-reverse, length-map, length_push}
+use Rattle.std.proofs.lemmas.Iterator.Adapters.{YieldsList-from_rev_slice}
+use Rattle.std.proofs.lemmas.Iterator.Consumers.{YieldsList-turn, YieldsList-end}
+use Rattle.codes.specs.declared.speeds.Code.TheVariants.{Stop, Go}
 use Rattle.rules.specs.Rules.{code_at}
 use Rattle.rows.specs.Targets.{track_of, mark_of}
-use Rattle.rows.specs.Passing.{Stage, Five, read_code, codes_of}
-use Rattle.rows.specs.Examining.{Looked, Known}
-use Rattle.rows.proofs.Settles.{stage_none}
-use Rattle.rows.proofs.Looks.{known_none, known_more}
+use Rattle.rows.specs.Passing.{read_code, codes_of}
+use Rattle.rows.specs.Examining.{Looked}
+use Rattle.rows.proofs.Looks.{known_none, known_on, code_read}
 use Rattle.rows.proofs.examining.first_break.Goals as goal
 
-pub loop-i-init : goal.loop-i-init
-loop-i-init g c =
-    let line = c.args.line.now in
-    let target = c.args.target.now in
+pub loop-byte-init : goal.loop-byte-init
+loop-byte-init g c =
+    let survey = c.args.survey.now in
     let row = c.args.row.now in
-    let E = g.B.BrakingBook.emergencies c.args.book.now in
-    let D = g.B.BrakingBook.services c.args.book.now in
-    let start = c.started-pass.ensures in (
-      subst (λ n. Stage line target E D n c.started-pass.result) (sym c.requires.size)
-          (stage_none line target c.requires.located E D (g.B.BrakingBook.distances c.args.book.now) c.started-pass.result start.0 start.1.0),
-      known_none (track_of line) (mark_of target) E D c.args.approach (codes_of row) (suc (length row)) (let size = c.requires.size in omega arith),
-      start.1.1 ∙ sym (get_or_past (codes_of row) (length row) Stop (let count = length-map row read_code in omega arith)),
-    )
+    let book = survey.book.now in
+    let start = c.pass-pass.ensures in
+    let interval = start.interval in
+    let count = length-map row read_code in
+    let size = c.requires in
+    record {
+      stage = start.stage;
+      at = omega arith;
+      known = known_none (track_of survey.line) (mark_of survey.target) (g.B.BrakingBook.emergencies book) (g.B.BrakingBook.services book) c.args.approach (codes_of row) (suc c.pass-pass.result.interval) (omega arith);
+      next = start.next ∙ sym (get_or_past (codes_of row) c.pass-pass.result.interval Stop (omega arith));
+    }
 
-pub begin_of-begin-requires : goal.begin_of-begin-requires
-begin_of-begin-requires g c =
-    let line = c.args.line.now in
-    let inv = c.loop-i.invariant in
-    let here : c.loop-i.i - 1 + 1 ≡ c.loop-i.i = let some = c.loop-i-test.true in omega arith in
-    let count = length-map line.intervals.now (λ (interval : Interval). interval.length) in
-    let last = c.requires.located.last in
-    let within = inv.0.within in
-    record { within = omega arith; ends = inv.0.ends ∙ ap (end_of (track_of line)) (sym here) }
-
-pub loop-i-preserved : goal.loop-i-preserved
-loop-i-preserved g c =
-    let line = c.args.line.now in
-    let target = c.args.target.now in
+pub loop-byte-preserved : goal.loop-byte-preserved
+loop-byte-preserved g c =
+    let survey = c.args.survey.now in
     let row = c.args.row.now in
-    let E = g.B.BrakingBook.emergencies c.args.book.now in
-    let D = g.B.BrakingBook.services c.args.book.now in
-    let inv = c.loop-i.invariant in
-    let some = c.loop-i-test.true in
-    let n = c.loop-i.i - 1 in
-    let here : c.loop-i.i ≡ suc n = omega arith in
-    let plus : n + 1 ≡ suc n = omega arith in
-    let back : n + 1 - 1 ≡ n = omega arith in
-    let within = inv.0.within in
-    let inside : n < length row = let size = c.requires.size in omega arith in
-    let code : c.code_of-code.result ≡ get_or (codes_of row) n Stop = c.code_of-code.ensures ∙ sym (get_or-map read_code row n 0 Stop inside) in
-    let next : c.loop-i.pass.next ≡ get_or (codes_of row) (suc n) Stop = inv.2 ∙ ap (λ i. get_or (codes_of row) i Stop) here in
-    let five : Five (track_of line) (mark_of target) E D (suc n) (get_or (codes_of row) (suc n) Stop) c.caps_at-caps.result =
-    subst (λ w. Five (track_of line) (mark_of target) E D (suc n) w c.caps_at-caps.result) next
-    (subst (λ i. Five (track_of line) (mark_of target) E D i c.loop-i.pass.next c.caps_at-caps.result) plus c.caps_at-caps.ensures) in
-    let looked : Looked c.caps_at-caps.result (code_at c.args.approach (codes_of row) (suc n)) (suc n) c.loop-i.found c.looked_at-found.result =
-    subst (λ x. Looked c.caps_at-caps.result x (suc n) c.loop-i.found c.looked_at-found.result) code
-    (subst (λ i. Looked c.caps_at-caps.result c.code_of-code.result i c.loop-i.found c.looked_at-found.result) plus c.looked_at-found.ensures) in (
-      subst (λ i. Stage line target E D i c.further-pass.result) back c.further-pass.ensures.stage,
-      known_more (track_of line) (mark_of target) E D c.args.approach (codes_of row) (suc n) (omega arith) c.caps_at-caps.result five c.loop-i.found c.looked_at-found.result
-          (subst (λ i. Known (track_of line) (mark_of target) E D c.args.approach (codes_of row) (suc i) c.loop-i.found) here inv.1) looked,
-      c.further-pass.ensures.next ∙ code,
-    )
+    let book = survey.book.now in
+    let inv = c.loop-byte.invariant in
+    let at = inv.at in
+    let caps = c.caps-caps.result in
+    let found = c.looked_at-found.result in
+    let turn = YieldsList-turn (YieldsList-from_rev_slice row cc) c.loop-byte.yielded _ c.loop-byte.yielded_by _ _ c.in-Some.byte c.in-Some.is c.next.ensures.steps in
+    let pushed = length_push c.loop-byte.yielded c.in-Some.byte in
+    let i = c.further-pass.result.interval in
+    let back = c.further-pass.ensures.interval in
+    let here : c.loop-byte.pass.interval ≡ suc i = omega arith in
+    let code : c.code_of-code.result ≡ code_at c.args.approach (codes_of row) (suc i) =
+    c.code_of-code.ensures ∙ code_read c.args.approach row (suc i) (length c.loop-byte.yielded) c.in-Some.byte.now (omega arith) turn.0 turn.1 in
+    record {
+      stage = c.further-pass.ensures.stage;
+      at = omega arith;
+      known = known_on (track_of survey.line) (mark_of survey.target) (g.B.BrakingBook.emergencies book) (g.B.BrakingBook.services book) c.args.approach (codes_of row) (suc i) c.loop-byte.pass.interval
+          c.loop-byte.pass.next c.code_of-code.result here (inv.next ∙ ap (λ n. get_or (codes_of row) n Stop) here) code (let size = c.requires in omega arith) caps c.caps-caps.ensures c.loop-byte.found found inv.known
+          (subst (λ n. Looked caps c.code_of-code.result n c.loop-byte.found found) here c.looked_at-found.ensures);
+      next = c.further-pass.ensures.next ∙ code;
+    }
 
 pub returns : goal.returns
 returns g c =
-    let line = c.args.line.now in
-    let target = c.args.target.now in
+    let survey = c.args.survey.now in
     let row = c.args.row.now in
-    let E = g.B.BrakingBook.emergencies c.args.book.now in
-    let D = g.B.BrakingBook.services c.args.book.now in
-    let inv = c.loop-i.invariant in
-    let end : c.loop-i.i ≡ 0 = let done = c.loop-i-test.false in omega arith in
-    let next : c.loop-i.pass.next ≡ get_or (codes_of row) 0 Stop = inv.2 ∙ ap (λ i. get_or (codes_of row) i Stop) end in
-    known_more (track_of line) (mark_of target) E D c.args.approach (codes_of row) 0 (omega arith) c.caps_at-caps-2.result
-    (subst (λ w. Five (track_of line) (mark_of target) E D 0 w c.caps_at-caps-2.result) next c.caps_at-caps-2.ensures) c.loop-i.found c.looked_at.result
-    (subst (λ i. Known (track_of line) (mark_of target) E D c.args.approach (codes_of row) (suc i) c.loop-i.found) end inv.1) c.looked_at.ensures
-
-pub caps_at-caps-requires-2 : goal.caps_at-caps-requires-2
-caps_at-caps-requires-2 g c =
-    let E = g.B.BrakingBook.emergencies c.args.book.now in
-    let D = g.B.BrakingBook.services c.args.book.now in
-    let end : c.loop-i.i ≡ 0 = let done = c.loop-i-test.false in omega arith in
-    record {
-      located = c.requires.located;
-      stage = subst (λ i. Stage c.args.line.now c.args.target.now E D i c.loop-i.pass) end c.loop-i.invariant.0;
-      begins = c.begin_of-begin-2.ensures;
-    }
+    let book = survey.book.now in
+    let inv = c.loop-byte.invariant in
+    let at = inv.at in
+    let end = YieldsList-end (YieldsList-from_rev_slice row cc) c.loop-byte.yielded _ c.loop-byte.yielded_by _ _ c.in-None.is c.next.ensures.steps in
+    let long = length-reverse row in
+    let last = end.1 in
+    let here : c.loop-byte.pass.interval ≡ 0 = omega arith in
+    known_on (track_of survey.line) (mark_of survey.target) (g.B.BrakingBook.emergencies book) (g.B.BrakingBook.services book) c.args.approach (codes_of row) 0 c.loop-byte.pass.interval
+    c.loop-byte.pass.next (Go c.args.approach) here (inv.next ∙ ap (λ i. get_or (codes_of row) i Stop) here) refl (omega arith) c.caps.result c.caps.ensures c.loop-byte.found c.looked_at.result inv.known c.looked_at.ensures

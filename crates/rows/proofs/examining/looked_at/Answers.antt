@@ -1,8 +1,11 @@
-use Rattle.rows.specs.Examining.{obeyed, breaks}
+use Rattle.std.proofs.Common.{◌≡◌, ℕ, Option, sym, subst, rules}
+use Rattle.std.specs.Option.{option_map, option_or}
+use Rattle.rows.specs.declared.breaks.Break.{Break}
+use Rattle.rows.specs.Examining.{broken_number, Looked}
+use Rattle.rows.proofs.Broken.{looked_at}
 use Rattle.rows.proofs.examining.looked_at.Goals as goal
 
-pub returns-in-Some : goal.returns-in-Some
-returns-in-Some c = breaks c.in-Some.rule c.in-Some.ensures
-
-pub returns-in-None : goal.returns-in-None
-returns-in-None c = obeyed c.in-None.ensures
+pub returns : goal.returns
+returns c =
+    let told : ◌≡◌ {A = Option Break} c.or.result (option_or (option_map (λ (rule : ℕ). record { interval = c.args.j; rule = rule }) (broken_number c.args.caps.now c.args.code)) c.args.known) = search rules in
+    subst (Looked c.args.caps.now c.args.code c.args.j c.args.known) (sym told) (looked_at c.args.caps.now c.args.code c.args.j c.args.known)

@@ -8,8 +8,10 @@ use Rattle.rows.proofs.finding.fill_row.Given as goal
 
 -- the intervals behind the i-th have their codes
 abbrev pub invariant-loop-i : goal.invariant-loop-i
-invariant-loop-i g l =
-    Stage l.line l.target (g.B.BrakingBook.emergencies l.book) (g.B.BrakingBook.services l.book) l.i l.pass
-    × FoundFrom (track_of l.line) (mark_of l.target) (g.B.BrakingBook.emergencies l.book) (g.B.BrakingBook.services l.book) l.i (codes_of l.row)
-    × (l.pass.next ≡ get_or (codes_of l.row) l.i Stop)
-    × Spells l.i l.row
+invariant-loop-i g l = record {
+  stage : Stage l.survey.line l.survey.target (g.B.BrakingBook.emergencies l.survey.book.now) (g.B.BrakingBook.services l.survey.book.now) l.pass;
+  at : l.pass.interval ≡ l.i;
+  found : FoundFrom (track_of l.survey.line) (mark_of l.survey.target) (g.B.BrakingBook.emergencies l.survey.book.now) (g.B.BrakingBook.services l.survey.book.now) l.i (codes_of l.row);
+  next : l.pass.next ≡ get_or (codes_of l.row) l.i Stop;
+  spelt : Spells l.i l.row;
+}

@@ -1,4 +1,4 @@
-use Rattle.std.proofs.Common.{sym, ◌∙◌, subst}
+use Rattle.std.proofs.Common.{sym, refl, ◌∙◌, subst}
 use Rattle.std.proofs.lemmas.Bool.{cond-true, cond-false}
 use Rattle.std.proofs.lemmas.Bool.Decides.{not_from_Decides}
 use Rattle.codes.specs.declared.speeds.Code.TheVariants.{Go}
@@ -12,11 +12,13 @@ use Rattle.rows.proofs.working_out.settled.Goals as goal
 
 pub returns-else-allowed : goal.returns-else-allowed
 returns-else-allowed g c =
-    let track = track_of c.args.line.now in
-    let mark = mark_of c.args.target.now in
-    let book = c.args.book.now in
+    let survey = c.args.survey.now in
+    let track = track_of survey.line in
+    let mark = mark_of survey.target in
+    let book = survey.book.now in
     let E = g.B.BrakingBook.emergencies book in
     let D = g.B.BrakingBook.services book in (
+      refl,
       λ other lawful. not_from_Decides _ c.is_allowed-allowed.ensures c.if-allowed.false
           (subst (Allowed track mark E D 0 (Go c.args.approach)) (sym c.fill_row-pass.ensures.next)
           (approach_allowed E D (g.B.BrakingBook.laws book) track mark (codes_of c.fill_row-pass.new.row) c.fill_row-pass.ensures.found c.args.approach other lawful)),
@@ -25,9 +27,10 @@ returns-else-allowed g c =
 
 pub returns-then-allowed : goal.returns-then-allowed
 returns-then-allowed g c =
-    let track = track_of c.args.line.now in
-    let mark = mark_of c.args.target.now in
-    let book = c.args.book.now in
+    let survey = c.args.survey.now in
+    let track = track_of survey.line in
+    let mark = mark_of survey.target in
+    let book = survey.book.now in
     let E = g.B.BrakingBook.emergencies book in
     let D = g.B.BrakingBook.services book in
     let copied = sym (c.copy_lawful.ensures ∙ cond-true c.is_allowed-allowed.result _ _ c.if-allowed.true) in
@@ -35,5 +38,5 @@ returns-then-allowed g c =
       subst (λ bytes. Highest track mark E D c.args.approach (codes_of bytes)) copied
           (found_highest E D (g.B.BrakingBook.laws book) track mark (codes_of c.fill_row-pass.new.row) c.fill_row-pass.ensures.found c.args.approach allowed),
       subst (Spells 0) copied c.fill_row-pass.ensures.spelt,
-      c.fill_row-pass.ensures.stage,
+      c.ground_told.ensures,
     )

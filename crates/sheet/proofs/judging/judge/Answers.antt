@@ -1,7 +1,8 @@
 use Rattle.std.proofs.Common.{sym, subst}
 use Rattle.std.proofs.lemmas.Result.{err_from_is_err_and}
 use Rattle.rows.specs.Drawings.{drawing_of}
-use Rattle.rows.specs.Examining.{Failed, absent}
+use Rattle.rows.specs.Asking.{absent}
+use Rattle.rows.specs.Examining.{Failed, unasked}
 use Rattle.rows.proofs.Verdicts.{located_same, speed_same}
 use Rattle.sheet.proofs.Passes.{place_bounded}
 use Rattle.sheet.proofs.judging.judge.Goals as goal
@@ -12,7 +13,7 @@ returns-in_err-target g c =
     let broke = err_from_is_err_and c.from_residual-in_err-target.result c.from_residual-in_err-target.ensures.1 in
     let told = c.in_err-target.ensures in
     rw (broke.1, broke.2)
-    (subst (Failed (drawing_of c.args.line.now) c.args.mark c.args.approach (g.B.BrakingBook.emergencies book) (g.B.BrakingBook.services book) c.args.row.now) (sym told.0) (absent told.1))
+    (subst (Failed (drawing_of c.args.line.now) c.args.mark c.args.approach (g.B.BrakingBook.emergencies book) (g.B.BrakingBook.services book) c.args.row.now) (sym told.0) (unasked _ (absent told.1)))
 
 pub invariant_of-result : goal.invariant_of-result
 invariant_of-result g c = record { near = place_bounded (drawing_of c.args.line.now) c.args.mark _ 64 c.requires c.in_ok-target.ensures }
