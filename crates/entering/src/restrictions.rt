@@ -28,7 +28,7 @@ impl Draft for Entry<u8> {
         if is_impossible_stretch(self.from, self.to) {
             return Err(Refusal::Stretch);
         }
-        let value = Speed::from_kmh(self.value).ok_or(Refusal::Speed)?;
+        let value = Speed::try_from(self.value)?;
         Ok(Entry {
             from: self.from,
             to: self.to,
