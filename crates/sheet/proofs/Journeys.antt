@@ -1,5 +1,5 @@
 -- A train that departs or advances over the records in use is one that sets out over a sheet or moves on. Assumes nothing.
-use Rattle.std.proofs.Common.{◌≡◌, ℕ, ◌≤◌, List, [], length, get_or, Bool, true, false, Some, None, Ok, Option, Result, sym, refl, ap, ◌∙◌, subst, arith}
+use Rattle.std.proofs.Common.{◌≡◌, ℕ, ◌≤◌, List, [], length, get_or, Bool, true, false, Some, None, Ok, Option, sym, refl, ap, ◌∙◌, subst, arith}
 use Rattle.std.proofs.lemmas.List.{length-take-le}
 use Rattle.std.proofs.lemmas.Bool.Decides.{nat_tests}
 use Rattle.codes.specs.declared.refusals.Refusal.{Refusal}
@@ -24,7 +24,9 @@ use Rattle.entering.specs.Entering.{short}
 use Rattle.sheet.specs.Sheets.{Heading, Pass, passed_row}
 use Rattle.sheet.specs.Faults.{passed_bytes, step_fault}
 use Rattle.sheet.specs.Reads.{way_fault}
-use Rattle.sheet.specs.States.{passed_heading, running_heading, pass_of, passed_of, journey_of, report_of}
+use Rattle.sheet.specs.Ways.{IsWay, GoesOn}
+use Rattle.sheet.specs.declared.way.Way.{Way}
+use Rattle.sheet.specs.States.{passed_heading, running_heading, pass_of, passed_of, journey_of}
 use Rattle.sheet.specs.Promises.{RunsOver, MovesOn, Stepped}
 use Rattle.sheet.specs.declared.passed.PassedSheet.{PassedSheet}
 use Rattle.sheet.specs.declared.running.RunningSheet.{RunningSheet}
@@ -112,11 +114,13 @@ module _ {B T : Type 0} (E : Emergencies) (numbers : T → Numbers) (gradients g
         moves = λ restrictions. moves_over start drawn-ground pass.mark E (passed_row pass row) (lengths_of drawn-line) [] restrictions before there moved.0 moved.1;
       }
 
--- a step that is due, of a train that does not stand, moves it on
+-- a train that goes on, where no refusal is due, has made its step
 module _ {B T : Type 0} (E : Emergencies) (numbers : T → Numbers) where
-  pub stepped : (fault : Option Refusal) (still : Bool) (sheet : RunningSheet B T) (intervals : List Interval) (gradients : List (Entry Class)) (row : List ℕ)
-      (r : Result Report Refusal) (after : RunningSheet B T) → fault ≡ None → still ≡ false → r ≡ Ok (report_of (journey_of numbers after))
-      → MovesOn E numbers sheet intervals gradients row after → Stepped E numbers fault still sheet intervals gradients row r after
-  stepped (Some why) still sheet intervals gradients row r after none rolls told moves = cc
-  stepped None true sheet intervals gradients row r after none rolls told moves = cc
-  stepped None false sheet intervals gradients row r after none rolls told moves = (told, moves)
+  pub stepped : (fault : Option Refusal) (still : Bool) (sheet after : RunningSheet B T) (intervals line : List Interval) (gradients : List (Entry Class)) (row : List ℕ)
+      (way : Way) (report : Report) → fault ≡ None → line ≡ contents intervals (running_heading sheet).intervals
+      → IsWay (running_heading sheet) gradients row (pass_of (passed_of sheet)) way → 64 ≤ length row
+      → GoesOn E numbers still sheet line way report after → Stepped E numbers fault still sheet intervals gradients row (Ok report) after
+  stepped (Some why) still sheet after intervals line gradients row way report none line-is is_way long goes = cc
+  stepped None true sheet after intervals line gradients row way report none line-is is_way long goes = (ap (λ r. Ok r) goes.0, goes.1)
+  stepped None false sheet after intervals line gradients row way report none line-is is_way long goes =
+      (ap (λ r. Ok r) goes.0, moves_on E numbers gradients way.gradients.now row way.row.now sheet after intervals line line-is is_way.ground is_way.bytes long goes.1 goes.2)

@@ -5,7 +5,7 @@ ghost use Rattle.entering.specs.Entering.{interval_fault, gradient_fault, restri
 ghost use Rattle.sheet.specs.Changes.{more_intervals, more_gradients, more_restrictions, more_marks, fewer_gradients, fewer_restrictions};
 ghost use Rattle.sheet.specs.Faults.{strike_fault, close_fault};
 ghost use Rattle.sheet.specs.States.{open_heading};
-ghost use Rattle.sheet.specs.Promises.{Blanks, Changed, Closes};
+ghost use Rattle.sheet.specs.Promises.{Blanks, Edits, Closes};
 
 use super::base::Base;
 use super::closed::ClosedSheet;
@@ -51,7 +51,7 @@ impl OpenSheet {
         number: u16,
         length: u32,
     ) -> Result<(), Refusal>
-        ensures { Changed (interval_fault table.old self.old.base.intervals number length) (more_intervals (open_heading self.old)) (slice_set table.old self.old.base.intervals (interval_of number length)) (open_heading self.old) table.old result (open_heading self.new) table.new }
+        ensures { Edits (interval_fault table.old self.old.base.intervals number length) more_intervals (slice_set table.old self.old.base.intervals (interval_of number length)) self.old table.old result self.new table.new }
     {
         self.base.intervals = enter_interval(table, self.base.intervals, number, length)?;
         Ok(())
@@ -67,7 +67,7 @@ impl OpenSheet {
         to: u32,
         faldtal: i32,
     ) -> Result<(), Refusal>
-        ensures { Changed (gradient_fault table.old self.old.base.gradients from to faldtal) (more_gradients (open_heading self.old)) (slice_set table.old self.old.base.gradients (gradient_of from to faldtal)) (open_heading self.old) table.old result (open_heading self.new) table.new }
+        ensures { Edits (gradient_fault table.old self.old.base.gradients from to faldtal) more_gradients (slice_set table.old self.old.base.gradients (gradient_of from to faldtal)) self.old table.old result self.new table.new }
     {
         self.base.gradients = enter_gradient(table, self.base.gradients, from, to, faldtal)?;
         Ok(())
@@ -83,7 +83,7 @@ impl OpenSheet {
         to: u32,
         kmh: u8,
     ) -> Result<(), Refusal>
-        ensures { Changed (restriction_fault table.old self.old.base.restrictions from to kmh) (more_restrictions (open_heading self.old)) (slice_set table.old self.old.base.restrictions (restriction_of from to kmh)) (open_heading self.old) table.old result (open_heading self.new) table.new }
+        ensures { Edits (restriction_fault table.old self.old.base.restrictions from to kmh) more_restrictions (slice_set table.old self.old.base.restrictions (restriction_of from to kmh)) self.old table.old result self.new table.new }
     {
         self.base.restrictions = enter_restriction(table, self.base.restrictions, from, to, kmh)?;
         Ok(())
@@ -99,7 +99,7 @@ impl OpenSheet {
         position: u32,
         danger: u32,
     ) -> Result<(), Refusal>
-        ensures { Changed (mark_fault table.old self.old.base.marks number position danger) (more_marks (open_heading self.old)) (slice_set table.old self.old.base.marks (mark_of number position danger)) (open_heading self.old) table.old result (open_heading self.new) table.new }
+        ensures { Edits (mark_fault table.old self.old.base.marks number position danger) more_marks (slice_set table.old self.old.base.marks (mark_of number position danger)) self.old table.old result self.new table.new }
     {
         self.base.marks = enter_mark(table, self.base.marks, number, position, danger)?;
         Ok(())
@@ -112,7 +112,7 @@ impl OpenSheet {
         table: &mut [Entry<Class>],
         place: usize,
     ) -> Result<(), Refusal>
-        ensures { Changed (strike_fault table.old self.old.base.gradients place) (fewer_gradients (open_heading self.old)) (closed_up table.old self.old.base.gradients place) (open_heading self.old) table.old result (open_heading self.new) table.new }
+        ensures { Edits (strike_fault table.old self.old.base.gradients place) fewer_gradients (closed_up table.old self.old.base.gradients place) self.old table.old result self.new table.new }
     {
         self.base.gradients = remove(table, self.base.gradients, place)?;
         Ok(())
@@ -126,7 +126,7 @@ impl OpenSheet {
         table: &mut [Entry<Speed>],
         place: usize,
     ) -> Result<(), Refusal>
-        ensures { Changed (strike_fault table.old self.old.base.restrictions place) (fewer_restrictions (open_heading self.old)) (closed_up table.old self.old.base.restrictions place) (open_heading self.old) table.old result (open_heading self.new) table.new }
+        ensures { Edits (strike_fault table.old self.old.base.restrictions place) fewer_restrictions (closed_up table.old self.old.base.restrictions place) self.old table.old result self.new table.new }
     {
         self.base.restrictions = remove(table, self.base.restrictions, place)?;
         Ok(())

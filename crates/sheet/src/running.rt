@@ -4,6 +4,7 @@ ghost use Rattle.driving.specs.Driving.{Advances};
 ghost use Rattle.driving.specs.Journeys.{stands};
 ghost use Rattle.sheet.specs.Faults.{step_fault};
 ghost use Rattle.sheet.specs.States.{running_heading, passed_of, pass_of, book_of, journey_of, report_of};
+ghost use Rattle.sheet.specs.Ways.{GoesOn};
 ghost use Rattle.sheet.specs.Promises.{Stepped};
 
 use super::closed::ClosedSheet;
@@ -75,6 +76,17 @@ impl<'b, B: BrakingBook, T: Train> RunningSheet<'b, B, T> {
         );
     }
 
+    // Moves the train one metre on, unless it stands, and tells where it then is.
+    fn go_on(&mut self, intervals: &[Interval], way: Way<'_>) -> Report
+        ensures { GoesOn (B.BrakingBook.emergencies (book_of (passed_of self.old))) T.Train.numbers (stands (journey_of T.Train.numbers self.old)) self.old intervals.now way.entry result self.new }
+    {
+        if self.stands() {
+            return self.report();
+        }
+        self.move_on(intervals, way);
+        self.report()
+    }
+
     // Moves the train one metre on, unless it stands, and reports where it is. It rolls the metre, with that metre's class; where it
     // then is at the begin of an interval up to the mark's whose code is not the one told last, it hears that code, with the class of
     // the 170 m behind. Refused by 10 where a table is lent under its count or the row table has fewer than 64 bytes, and by 11 where a
@@ -89,10 +101,6 @@ impl<'b, B: BrakingBook, T: Train> RunningSheet<'b, B, T> {
     {
         let intervals = in_use(intervals, self.passed.base.intervals)?;
         let way = self.passed.way(gradients, row_table)?;
-        if self.stands() {
-            return Ok(self.report());
-        }
-        self.move_on(intervals, way);
-        Ok(self.report())
+        Ok(self.go_on(intervals, way))
     }
 }
