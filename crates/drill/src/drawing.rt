@@ -26,10 +26,7 @@ fn closed(
     intervals: &[Interval],
     marks: &[StopMark],
 ) -> Result<ClosedSheet, Refusal> {
-    match sheet.close(intervals, marks) {
-        Ok(closed) => Ok(closed),
-        Err(refused) => Err(refused.why),
-    }
+    sheet.close(intervals, marks).map_err(|refused| refused.why)
 }
 
 // The sheet, drawn and closed.

@@ -16,10 +16,9 @@ pub fn passed_sheet<'b, B: BrakingBook>(
 ) -> Result<PassedSheet<'b, B>, Refusal> {
     let mut row = [0u8; 4];
     closed.work_out(lent, 1, 100, book, &mut row)?;
-    match closed.submit(lent, row_table, 1, 100, &row, book) {
-        Ok(passed) => Ok(passed),
-        Err(refused) => Err(refused.why),
-    }
+    closed
+        .submit(lent, row_table, 1, 100, &row, book)
+        .map_err(|refused| refused.why)
 }
 
 // Steps until the train stands, and tells where its pace changes; nothing where the sheet was refused a step.
@@ -30,14 +29,15 @@ fn tell_steps<B: BrakingBook, T: Train>(
     gradients: &[Entry<Class>],
     row_table: &[u8],
 ) -> anyhow::Result<()> {
-    let mut pace = 255;
+    let mut pace = None;
     for _ in 0..2_000 {
         let Ok(report) = running.step(intervals, gradients, row_table) else {
             return Err(anyhow!("a step was refused"));
         };
-        if report.pace != pace {
-            pace = report.pace;
+        if pace != Some(report.pace) {
+            pace = Some(report.pace);
             let position = report.position;
+            let pace = report.pace;
             println!(rt; "at {position} pace {pace}")?;
         }
         if report.stands {

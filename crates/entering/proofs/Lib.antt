@@ -1,4 +1,3 @@
 pub mod Rulings
 pub mod Values
-mod Looked
 pub mod Fit

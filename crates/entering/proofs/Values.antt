@@ -1,13 +1,11 @@
--- The class of a faldtal is the first whose edge it does not fall below, and the speed of so many km/h is that of the nine. Assumes nothing.
-use Rattle.std.proofs.Common.{◌≡◌, ℕ, zero, suc, ◌+◌, ◌-◌, ◌<◌, ◌≤◌, true, false, List, [], ◌∷◌, length, get_or, ℤ, ◌≤ℤ◌, Some, None, sym, refl, ap, ◌∙◌, not-suc-le-zero, arith}
+-- The class of a faldtal is the first whose edge it does not fall below. Assumes nothing.
+use Rattle.std.proofs.Common.{◌≡◌, ℕ, zero, suc, ◌+◌, ◌-◌, ◌<◌, ◌≤◌, true, List, [], ◌∷◌, length, get_or, ℤ, ◌≤ℤ◌, sym, refl, ap, ◌∙◌, not-suc-le-zero, arith}
 use lib.Signed.{le_z}
 use Rattle.std.proofs.lemmas.Int.{ints, by_lt_z}
 use Rattle.codes.specs.declared.gradients.Class.{Class}
 use Rattle.codes.specs.declared.gradients.Class.TheVariants.{C1, C2, C3, C4, C5, C6, C7, C8, C9, C10, C11}
-use Rattle.codes.specs.declared.speeds.Speed.{Speed}
 use Rattle.codes.specs.Gradients.{number, classes, edge, Faldtal, First}
-use Rattle.codes.specs.Speeds.{speed_of}
-use Rattle.entering.specs.Entering.{first_reached, class_of_faldtal, no_speed, speed_of_kmh}
+use Rattle.entering.specs.Entering.{first_reached, class_of_faldtal}
 
 -- ---- classes
 -- the classes of a list are numbered n, n + 1 and so on
@@ -66,12 +64,3 @@ module _ (f : ℤ) where
       let k-reached = not_before k h.reaches in
       let not-flatter : number (class_of_faldtal f) < number k → ⊥ = λ flatter. let below = h.flatter (class_of_faldtal f) flatter in let reach = (first_class_of_faldtal faldtal).reaches in omega (arith, ints) in
       same_class k (class_of_faldtal f) (omega arith)
-
--- ---- speeds
-pub no_speed_from_none : (kmh : ℕ) → speed_of kmh ≡ None → no_speed kmh ≡ true
-unfolding no_speed
-no_speed_from_none kmh e = rw e
-
-pub speed_from_some : (kmh : ℕ) (v : Speed) → speed_of kmh ≡ Some v → (no_speed kmh ≡ false) × (v ≡ speed_of_kmh kmh)
-unfolding no_speed speed_of_kmh
-speed_from_some kmh v e = (rw e, rw e)

@@ -5,16 +5,20 @@
 --     impossible_stretch from to         an entry has no metres, or ends too far out
 --     no_faldtal f, no_speed kmh         f is no faldtal; kmh is none of the nine speeds
 --     out_of_range position danger       no mark stands so, or no danger point lies so behind it
---     numbered_already .. table count    a record in use has the number
+--     has_number number_of n records     one of the records has the number
 --     class_of_faldtal f                 the first class whose edge f does not fall below
 --     speed_of_kmh kmh                   the speed of so many km/h, where there is one
 --     interval_of, gradient_of, restriction_of, mark_of     the record that is entered
+--     gradient_written, restriction_written   the record of a draft: of an entry with a faldtal, or with km/h
 --     room_fault table count limit later     the refusal for want of room, if one is due, else what comes later
+--     interval_flaw, gradient_flaw, restriction_flaw, mark_flaw
+--                                        the first refusal that is due of a draft beside the records in use, where there is room
 --     interval_fault, gradient_fault, restriction_fault, mark_fault
 --                                        the first refusal that is due, if any is
 --     FitInterval, FitGradient, FitRestriction, FitMark   what a record that was entered fulfils
-use Rattle.std.specs.Prelude.{ℕ, ◌+◌, ◌<◌, ◌≤◌, Bool, false, cond, not, ◌||◌, List, [], ◌∷◌, length, ℤ, pos, neg_ℤ, is_some, None, Option, ◌==◌, int_le, int_lt, nat_le, nat_lt}
+use Rattle.std.specs.Prelude.{ℕ, ◌+◌, ◌<◌, ◌≤◌, Bool, cond, not, ◌||◌, List, [], ◌∷◌, length, ℤ, pos, neg_ℤ, is_some, None, Option, ◌==◌, int_le, int_lt, nat_le, nat_lt}
 use Rattle.std.specs.Option.{unwrap_or}
+use Rattle.std.specs.List.{list_any}
 use Rattle.codes.specs.declared.gradients.Class.{Class}
 use Rattle.codes.specs.declared.gradients.Class.TheVariants.{C11}
 use Rattle.codes.specs.declared.speeds.Speed.{Speed}
@@ -80,11 +84,7 @@ out_of_range position danger = nat_lt last_position position || nat_lt danger po
 
 -- a record of the list has the number
 abbrev pub has_number : {X : Type 0} → (X → ℕ) → ℕ → List X → Bool
-has_number number_of number [] = false
-has_number number_of number (x ∷ xs) = number_of x == number || has_number number_of number xs
-
-abbrev pub numbered_already : {X : Type 0} → (X → ℕ) → ℕ → List X → ℕ → Bool
-numbered_already number_of number table count = has_number number_of number (contents table count)
+has_number number_of number records = list_any (λ x. number_of x == number) records
 
 -- ---- records
 -- the first class of the list whose edge f does not fall below, or class 11
@@ -101,11 +101,17 @@ speed_of_kmh kmh = unwrap_or (speed_of kmh) V120
 abbrev pub interval_of : ℕ → ℕ → Interval
 interval_of number metres = record { number = number; length = metres }
 
+abbrev pub gradient_written : Entry ℤ → Entry Class
+gradient_written draft = record { from = draft.from; to = draft.to; value = class_of_faldtal draft.value }
+
+abbrev pub restriction_written : Entry ℕ → Entry Speed
+restriction_written draft = record { from = draft.from; to = draft.to; value = speed_of_kmh draft.value }
+
 abbrev pub gradient_of : ℕ → ℕ → ℤ → Entry Class
-gradient_of from to f = record { from = from; to = to; value = class_of_faldtal f }
+gradient_of from to f = gradient_written (record { from = from; to = to; value = f })
 
 abbrev pub restriction_of : ℕ → ℕ → ℕ → Entry Speed
-restriction_of from to kmh = record { from = from; to = to; value = speed_of_kmh kmh }
+restriction_of from to kmh = restriction_written (record { from = from; to = to; value = kmh })
 
 abbrev pub mark_of : ℕ → ℕ → ℕ → StopMark
 mark_of number position danger = record { number = number; position = position; danger = danger }
@@ -122,29 +128,42 @@ mark_number mark = mark.number
 abbrev pub room_fault : {X : Type 0} → List X → ℕ → ℕ → Option Refusal → Option Refusal
 room_fault table count limit later = first (short table count) refusal.Size (first (used_up table count limit) refusal.Full later)
 
+-- a draft beside the records in use
+abbrev pub interval_flaw : Interval → List Interval → Option Refusal
+interval_flaw interval in_use =
+    first (impossible_length interval.length) refusal.Length
+    (first (has_number interval_number interval.number in_use) refusal.Doubled None)
+
+abbrev pub gradient_flaw : Entry ℤ → List (Entry Class) → Option Refusal
+gradient_flaw draft in_use =
+    first (impossible_stretch draft.from draft.to) refusal.Stretch
+    (first (no_faldtal draft.value) refusal.Grade None)
+
+abbrev pub restriction_flaw : Entry ℕ → List (Entry Speed) → Option Refusal
+restriction_flaw draft in_use =
+    first (impossible_stretch draft.from draft.to) refusal.Stretch
+    (first (no_speed draft.value) refusal.Speed None)
+
+abbrev pub mark_flaw : StopMark → List StopMark → Option Refusal
+mark_flaw mark in_use =
+    first (has_number mark_number mark.number in_use) refusal.Doubled
+    (first (out_of_range mark.position mark.danger) refusal.Overrun None)
+
+-- the room, and then the draft
 abbrev pub interval_fault : List Interval → ℕ → ℕ → ℕ → Option Refusal
-interval_fault table count number metres =
-    room_fault table count most_intervals
-    (first (impossible_length metres) refusal.Length
-    (first (numbered_already interval_number number table count) refusal.Doubled None))
+interval_fault table count number metres = room_fault table count most_intervals (interval_flaw (interval_of number metres) (contents table count))
 
 abbrev pub gradient_fault : List (Entry Class) → ℕ → ℕ → ℕ → ℤ → Option Refusal
 gradient_fault table count from to f =
-    room_fault table count most_gradients
-    (first (impossible_stretch from to) refusal.Stretch
-    (first (no_faldtal f) refusal.Grade None))
+    room_fault table count most_gradients (gradient_flaw (record { from = from; to = to; value = f }) (contents table count))
 
 abbrev pub restriction_fault : List (Entry Speed) → ℕ → ℕ → ℕ → ℕ → Option Refusal
 restriction_fault table count from to kmh =
-    room_fault table count most_restrictions
-    (first (impossible_stretch from to) refusal.Stretch
-    (first (no_speed kmh) refusal.Speed None))
+    room_fault table count most_restrictions (restriction_flaw (record { from = from; to = to; value = kmh }) (contents table count))
 
 abbrev pub mark_fault : List StopMark → ℕ → ℕ → ℕ → ℕ → Option Refusal
 mark_fault table count number position danger =
-    room_fault table count most_marks
-    (first (numbered_already mark_number number table count) refusal.Doubled
-    (first (out_of_range position danger) refusal.Overrun None))
+    room_fault table count most_marks (mark_flaw (mark_of number position danger) (contents table count))
 
 -- ---- what a record that was entered fulfils
 abbrev pub FitInterval : Interval → Type 0

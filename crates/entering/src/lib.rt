@@ -3,6 +3,7 @@
 #![tactic(auto)]
 
 mod checks;
+mod drafts;
 mod gradients;
 mod intervals;
 mod marks;

@@ -2,15 +2,37 @@
 ghost use Rattle.std.specs.Prelude.{◌≡◌, ◌+◌, is_ok, if◌then◌else◌, OnOk, slice_set};
 ghost use Rattle.codes.specs.Refusals.{told};
 ghost use Rattle.entering.specs.Faults.{ruled};
-ghost use Rattle.entering.specs.Entering.{mark_fault, mark_of, FitMark};
+ghost use Rattle.entering.specs.Entering.{most_marks, mark_flaw, mark_fault, mark_of, FitMark};
 
-use super::checks::{check_room, is_out_of_range};
-use super::numbers::is_numbered_already;
+use super::checks::is_out_of_range;
+use super::drafts::{Draft, enter};
+use super::numbers::has_number;
 use codes::Refusal;
 use rules::StopMark;
 
-// How many stop marks a line has at most.
-const MOST_MARKS: usize = 16;
+impl Draft for StopMark {
+    type Record = StopMark;
+
+    ghost MOST = { most_marks };
+
+    ghost flaw = { mark_flaw };
+
+    ghost written = { λ mark. mark };
+
+    ghost Fit = { FitMark };
+
+    const MOST: usize = 16;
+
+    fn checked(&self, in_use: &[StopMark]) -> Result<StopMark, Refusal> {
+        if has_number(in_use, self.number) {
+            return Err(Refusal::Doubled);
+        }
+        if is_out_of_range(self.position, self.danger) {
+            return Err(Refusal::Overrun);
+        }
+        Ok(*self)
+    }
+}
 
 // Writes one stop mark more behind those in use, and answers how many then are. Refused by 10 where the table is shorter than
 // its count, by 1 where it or the limit of 16 is used up, by 3 where a mark in use has the number, and by 7 where the
@@ -26,17 +48,10 @@ pub fn enter_mark(
     ensures after { table.new ≡ (if is_ok result then slice_set table.old count (mark_of number position danger) else table.old) }
     ensures fit { OnOk result (FitMark (mark_of number position danger)) }
 {
-    check_room(table, count, MOST_MARKS)?;
-    if is_numbered_already(table, count, number) {
-        return Err(Refusal::Doubled);
-    }
-    if is_out_of_range(position, danger) {
-        return Err(Refusal::Overrun);
-    }
-    table[count] = StopMark {
+    let draft = StopMark {
         number,
         position,
         danger,
     };
-    Ok(count + 1)
+    enter(table, count, draft)
 }

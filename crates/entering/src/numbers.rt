@@ -1,6 +1,6 @@
 // Records that have numbers, and whether one of them has a given number.
-ghost use Rattle.std.specs.Prelude.{◌≡◌, ℕ, ◌≤◌, length};
-ghost use Rattle.entering.specs.Entering.{has_number, numbered_already, interval_number, mark_number};
+ghost use Rattle.std.specs.Prelude.{◌≡◌, ℕ};
+ghost use Rattle.entering.specs.Entering.{has_number, interval_number, mark_number};
 
 use rules::{Interval, StopMark};
 
@@ -31,21 +31,8 @@ impl Numbered for StopMark {
 }
 
 // Whether one of the records has the number.
-fn has_number<T: Numbered>(records: &[T], number: u16) -> bool
+pub(super) fn has_number<T: Numbered>(records: &[T], number: u16) -> bool
     ensures { result ≡ has_number T.Numbered.known number records.now }
 {
-    for record in records {
-        if record.number() == number {
-            return true;
-        }
-    }
-    false
-}
-
-// Whether a record in use has the number.
-pub(super) fn is_numbered_already<T: Numbered>(table: &[T], count: usize, number: u16) -> bool
-    requires { count ≤ length table.now }
-    ensures { result ≡ numbered_already T.Numbered.known number table.now count }
-{
-    has_number(&table[0..count], number)
+    records.iter().any(|record| record.number() == number)
 }

@@ -2,14 +2,40 @@
 ghost use Rattle.std.specs.Prelude.{◌≡◌, ◌+◌, is_ok, if◌then◌else◌, OnOk, slice_set};
 ghost use Rattle.codes.specs.Refusals.{told};
 ghost use Rattle.entering.specs.Faults.{ruled};
-ghost use Rattle.entering.specs.Entering.{restriction_fault, restriction_of, FitRestriction};
+ghost use Rattle.entering.specs.Entering.{most_restrictions, restriction_flaw, restriction_written, restriction_fault, restriction_of, FitRestriction};
 
-use super::checks::{check_room, is_impossible_stretch};
+use super::checks::is_impossible_stretch;
+use super::drafts::{Draft, enter};
 use codes::{Refusal, Speed};
 use ground::Entry;
 
-// How many speed restrictions a line has at most.
-const MOST_RESTRICTIONS: usize = 64;
+// A restriction is drawn by its km/h.
+#[tactic(auto, unfolding(crate::specs::Entering::no_speed, crate::specs::Entering::speed_of_kmh))]
+impl Draft for Entry<u8> {
+    type Record = Entry<Speed>;
+
+    ghost MOST = { most_restrictions };
+
+    ghost flaw = { restriction_flaw };
+
+    ghost written = { restriction_written };
+
+    ghost Fit = { FitRestriction };
+
+    const MOST: usize = 64;
+
+    fn checked(&self, _in_use: &[Entry<Speed>]) -> Result<Entry<Speed>, Refusal> {
+        if is_impossible_stretch(self.from, self.to) {
+            return Err(Refusal::Stretch);
+        }
+        let value = Speed::try_from(self.value)?;
+        Ok(Entry {
+            from: self.from,
+            to: self.to,
+            value,
+        })
+    }
+}
 
 // Writes one speed restriction more behind those in use, and answers how many then are. Refused by 10 where the table is
 // shorter than its count, by 1 where it or the limit of 64 is used up, by 6 where the stretch has no metres or ends behind
@@ -25,11 +51,10 @@ pub fn enter_restriction(
     ensures after { table.new ≡ (if is_ok result then slice_set table.old count (restriction_of from to kmh) else table.old) }
     ensures fit { OnOk result (FitRestriction (restriction_of from to kmh)) }
 {
-    check_room(table, count, MOST_RESTRICTIONS)?;
-    if is_impossible_stretch(from, to) {
-        return Err(Refusal::Stretch);
-    }
-    let value = Speed::from_kmh(kmh).ok_or(Refusal::Speed)?;
-    table[count] = Entry { from, to, value };
-    Ok(count + 1)
+    let draft = Entry {
+        from,
+        to,
+        value: kmh,
+    };
+    enter(table, count, draft)
 }

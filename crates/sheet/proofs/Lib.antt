@@ -1,3 +1,4 @@
 mod Rulings
 mod Passes
 mod Journeys
+mod Ends

@@ -11,37 +11,37 @@ use Rattle.rules.specs.declared.lines.StopMark.{StopMark}
 use Rattle.sheet.specs.Sheets.{Heading, Tables}
 
 abbrev pub more_intervals : Heading → Heading
-more_intervals h = record { start = h.start; intervals = h.intervals + 1; gradients = h.gradients; restrictions = h.restrictions; marks = h.marks }
+more_intervals h = record h { intervals = h.intervals + 1 }
 
 abbrev pub more_gradients : Heading → Heading
-more_gradients h = record { start = h.start; intervals = h.intervals; gradients = h.gradients + 1; restrictions = h.restrictions; marks = h.marks }
+more_gradients h = record h { gradients = h.gradients + 1 }
 
 abbrev pub more_restrictions : Heading → Heading
-more_restrictions h = record { start = h.start; intervals = h.intervals; gradients = h.gradients; restrictions = h.restrictions + 1; marks = h.marks }
+more_restrictions h = record h { restrictions = h.restrictions + 1 }
 
 abbrev pub more_marks : Heading → Heading
-more_marks h = record { start = h.start; intervals = h.intervals; gradients = h.gradients; restrictions = h.restrictions; marks = h.marks + 1 }
+more_marks h = record h { marks = h.marks + 1 }
 
 abbrev pub fewer_gradients : Heading → Heading
-fewer_gradients h = record { start = h.start; intervals = h.intervals; gradients = h.gradients - 1; restrictions = h.restrictions; marks = h.marks }
+fewer_gradients h = record h { gradients = h.gradients - 1 }
 
 abbrev pub fewer_restrictions : Heading → Heading
-fewer_restrictions h = record { start = h.start; intervals = h.intervals; gradients = h.gradients; restrictions = h.restrictions - 1; marks = h.marks }
+fewer_restrictions h = record h { restrictions = h.restrictions - 1 }
 
 abbrev pub with_intervals : List Interval → Tables → Tables
-with_intervals xs t = record { intervals = xs; gradients = t.gradients; restrictions = t.restrictions; marks = t.marks; row = t.row }
+with_intervals xs t = record t { intervals = xs }
 
 abbrev pub with_gradients : List (Entry Class) → Tables → Tables
-with_gradients xs t = record { intervals = t.intervals; gradients = xs; restrictions = t.restrictions; marks = t.marks; row = t.row }
+with_gradients xs t = record t { gradients = xs }
 
 abbrev pub with_restrictions : List (Entry Speed) → Tables → Tables
-with_restrictions xs t = record { intervals = t.intervals; gradients = t.gradients; restrictions = xs; marks = t.marks; row = t.row }
+with_restrictions xs t = record t { restrictions = xs }
 
 abbrev pub with_marks : List StopMark → Tables → Tables
-with_marks xs t = record { intervals = t.intervals; gradients = t.gradients; restrictions = t.restrictions; marks = xs; row = t.row }
+with_marks xs t = record t { marks = xs }
 
 abbrev pub with_row : List ℕ → Tables → Tables
-with_row bytes t = record { intervals = t.intervals; gradients = t.gradients; restrictions = t.restrictions; marks = t.marks; row = bytes }
+with_row bytes t = record t { row = bytes }
 
 abbrev pub row_written : List ℕ → List ℕ → List ℕ
 row_written row table = row ++ drop (length row) table

@@ -7,7 +7,8 @@
 --     lent_fault, submit_fault            10 for tables so lent
 --     strange bytes                       one of the bytes is no code
 --     set_off_fault, step_fault           10, 11 for a byte of the passed row that is no code; 14 for a train above the approach code
-use Rattle.std.specs.Prelude.{ℕ, Bool, true, false, not, ◌&&◌, ◌||◌, List, [], ◌∷◌, length, take, is_some, None, Option, ◌==◌, nat_le, nat_lt}
+use Rattle.std.specs.Prelude.{ℕ, Bool, not, ◌&&◌, ◌||◌, List, length, take, is_some, None, Option, ◌==◌, nat_le, nat_lt}
+use Rattle.std.specs.List.{list_all, list_any}
 use Rattle.codes.specs.declared.refusals.Refusal.{Refusal}
 use Rattle.codes.specs.declared.refusals.Refusal.TheVariants as refusal
 use Rattle.codes.specs.Speeds.{kmh, code_of}
@@ -40,8 +41,7 @@ abbrev pub in_interval : ℕ → List ℕ → ℕ → Bool
 in_interval start lengths position = nat_lt start position && nat_le position (moved_on start lengths (length lengths))
 
 abbrev pub all_marks_stand : ℕ → List ℕ → List StopMark → Bool
-all_marks_stand start lengths [] = true
-all_marks_stand start lengths (mark ∷ marks) = in_interval start lengths mark.position && all_marks_stand start lengths marks
+all_marks_stand start lengths marks = list_all (λ (mark : StopMark). in_interval start lengths mark.position) marks
 
 -- no interval is in use, or a mark in use stands in none
 abbrev pub unready : ℕ → List Interval → List StopMark → Bool
@@ -72,8 +72,7 @@ abbrev pub submit_fault : Heading → Tables → Option Refusal
 submit_fault heading tables = first (lent_short heading tables || row_short tables.row) refusal.Size None
 
 abbrev pub strange : List ℕ → Bool
-strange [] = false
-strange (b ∷ bytes) = not (is_some (code_of b)) || strange bytes
+strange bytes = list_any (λ b. not (is_some (code_of b))) bytes
 
 -- the bytes of the passed row
 abbrev pub passed_bytes : Pass → List ℕ → List ℕ

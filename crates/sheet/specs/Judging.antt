@@ -1,7 +1,7 @@
 -- What judging a row that is submitted answers. Assumes nothing.
 --     Fixes .. fixed      the row passes, for this mark and this approach code
---     Judged .. r         r is what the pass fixes, or the first refusal that is due
-use Rattle.std.specs.Prelude.{◌≡◌, ℕ, List, Ok, Err, Result}
+--     Judged short .. r   r is what the pass fixes, or the first refusal that is due
+use Rattle.std.specs.Prelude.{◌≡◌, ℕ, Bool, true, false, List, [], Ok, Err, Result}
 use Rattle.codes.specs.declared.refusals.Refusal.{Refusal}
 use Rattle.codes.specs.Refusals.{notice}
 use Rattle.laws.specs.Books.{Emergencies, Services}
@@ -14,6 +14,9 @@ pub record Fixes (drawing : Drawing) (mark approach : ℕ) (E : Emergencies) (D 
   pub target : pass.target ≡ fixed.target
   pub speed : pass.speed ≡ fixed.approach
 
-abbrev pub Judged : Drawing → ℕ → ℕ → Emergencies → Services → List ℕ → Result Fixed Refusal → Type 0
-Judged drawing mark approach E D row (Ok fixed) = Fixes drawing mark approach E D row fixed
-Judged drawing mark approach E D row (Err why) = Failed drawing mark approach E D row (notice why)
+-- whether a table is lent under its count goes first
+abbrev pub Judged : Bool → Drawing → ℕ → ℕ → Emergencies → Services → List ℕ → Result Fixed Refusal → Type 0
+Judged true drawing mark approach E D row (Ok fixed) = ⊥
+Judged true drawing mark approach E D row (Err why) = notice why ≡ (10, [])
+Judged false drawing mark approach E D row (Ok fixed) = Fixes drawing mark approach E D row fixed
+Judged false drawing mark approach E D row (Err why) = Failed drawing mark approach E D row (notice why)

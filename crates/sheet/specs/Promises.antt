@@ -2,6 +2,7 @@
 --     Blanks start r                    a blank sheet with its start, or 6
 --     Changed fault grown written ..    entering and striking: the fault that is due, if any is, leaves the sheet and the table as they were;
 --                                       else the heading has grown and the table has the record written
+--     Edits fault grow written ..       the same of an open sheet
 --     Closes, Works, Submitted, SetsOut, Stepped     closing, working out, submitting, setting off and stepping
 --     A call that takes its sheet by value hands it back with the refusal.
 use Rattle.std.specs.Prelude.{◌≡◌, ℕ, Bool, true, false, cond, List, [], ◌∷◌, is_ok, Some, None, Ok, Err, Option, Result}
@@ -43,6 +44,10 @@ pub record Changed {X : Type 0} (fault : Option Refusal) (grown : Heading) (writ
   pub answer : told r ≡ ruled fault tt
   pub heading : after ≡ cond (is_ok r) grown before
   pub holds : left ≡ cond (is_ok r) written table
+
+-- the same of an open sheet, whose heading grows
+abbrev pub Edits : {X : Type 0} → Option Refusal → (Heading → Heading) → List X → OpenSheet → List X → Result (Unit {0}) Refusal → OpenSheet → List X → Type 0
+Edits fault grow written before table r after left = Changed fault (grow (open_heading before)) written (open_heading before) table r (open_heading after) left
 
 abbrev pub Closes : Option Refusal → OpenSheet → Result ClosedSheet (Refused OpenSheet) → Type 0
 Closes fault sheet (Ok closed) = (fault ≡ None) × (closed.base ≡ sheet.base)

@@ -44,7 +44,7 @@ abbrev pub train_of : {B T : Type 0} → RunningSheet B T → T
 train_of sheet = sheet.train
 
 abbrev pub journey_of : {B T : Type 0} → (T → Numbers) → RunningSheet B T → Journey
-journey_of numbers sheet = record { position = sheet.position; told = sheet.told; train = numbers sheet.train }
+journey_of numbers sheet = record { position = sheet.head.position; told = sheet.head.told; train = numbers sheet.train }
 
 abbrev pub report_of : Journey → Report
 report_of journey = record { position = journey.position; pace = journey.train.pace; stands = stands journey }

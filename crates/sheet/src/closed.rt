@@ -7,7 +7,7 @@ ghost use Rattle.sheet.specs.Promises.{tables_of, Works, Submitted};
 
 use super::base::Base;
 use super::judging::{copy_row, judge};
-use super::lending::{is_lent_short, is_row_short, line_of};
+use super::lending::is_row_short;
 use super::lent::LentTables;
 use super::open::OpenSheet;
 use super::passed::PassedSheet;
@@ -44,19 +44,13 @@ impl ClosedSheet {
     ) -> Result<(StopLetter, usize), Refusal>
         ensures { Works (lent_short (closed_heading self.now) (tables_of lent.now [])) (drawn (closed_heading self.now) (tables_of lent.now [])) mark approach (B.BrakingBook.emergencies book.now) (B.BrakingBook.services book.now) row.old result row.new }
     {
-        let base = self.base;
-        if is_lent_short(base, lent) {
-            return Err(Refusal::Size);
-        }
-        let line = line_of(base, lent);
+        let line = self.base.line(lent)?;
         let mut scratch = [0u8; 64];
         match work_out_in(&line, mark, approach, book, row, &mut scratch) {
             Ok(told) => Ok(told),
-            Err(failure) => match failure {
-                Failure::Refused(why) => Err(why),
-                // A sheet has at most 64 intervals, so that the scratch is never too small.
-                Failure::Memory => unreachable(),
-            },
+            Err(Failure::Refused(why)) => Err(why),
+            // A sheet has at most 64 intervals, so that the scratch is never too small.
+            Err(Failure::Memory) => unreachable(),
         }
     }
 
@@ -77,15 +71,14 @@ impl ClosedSheet {
     ) -> Result<PassedSheet<'b, B>, Refused<ClosedSheet>>
         ensures { Submitted book.now (lent_short (closed_heading self) (tables_of lent.now []) || row_short row_table.old) (drawn (closed_heading self) (tables_of lent.now [])) mark approach (B.BrakingBook.emergencies book.now) (B.BrakingBook.services book.now) row.now self row_table.old result row_table.new }
     {
-        let base = self.base;
-        if is_lent_short(base, lent) || is_row_short(row_table) {
+        if is_row_short(row_table) {
             return Err(Refused {
                 sheet: self,
                 why: Refusal::Size,
             });
         }
-        let line = line_of(base, lent);
-        match judge(&line, mark, approach, row, book) {
+        let base = self.base;
+        match judge(base, lent, mark, approach, row, book) {
             Err(why) => Err(Refused { sheet: self, why }),
             Ok(fixed) => {
                 copy_row(row_table, row);

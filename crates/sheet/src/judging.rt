@@ -1,32 +1,35 @@
 // Judging a row that is submitted, and keeping it.
-ghost use Rattle.std.specs.Prelude.{◌≡◌, ◌≤◌, length};
-ghost use Rattle.rows.specs.Drawings.{drawing_of};
+ghost use Rattle.std.specs.Prelude.{◌≡◌, ◌≤◌, [], length};
 ghost use Rattle.sheet.specs.Changes.{row_written};
+ghost use Rattle.sheet.specs.Faults.{lent_short};
 ghost use Rattle.sheet.specs.Judging.{Judged};
+ghost use Rattle.sheet.specs.Sheets.{drawn};
+ghost use Rattle.sheet.specs.States.{heading_of};
+ghost use Rattle.sheet.specs.Promises.{tables_of};
 
+use super::base::Base;
 use super::fixed::Fixed;
+use super::lent::LentTables;
 use books::BrakingBook;
 use codes::{Refusal, Speed};
 use rows::{examine, locate};
-use rules::Line;
 
-// Examines a row before a stop mark of a line with 64 intervals at most, and answers what a pass fixes. Refused as the examination
-// refuses.
+// Examines a row before a stop mark of the sheet's line, and answers what a pass fixes. Refused by 10 where a table is lent under its
+// count, else as the examination refuses.
 pub(super) fn judge<B: BrakingBook>(
-    line: &Line<'_>,
+    base: Base,
+    lent: &LentTables<'_>,
     mark: u16,
     approach: u8,
     row: &[u8],
     book: &B,
 ) -> Result<Fixed, Refusal>
-    requires { length line.now.intervals.now ≤ 64 }
-    ensures { Judged (drawing_of line.now) mark approach (B.BrakingBook.emergencies book.now) (B.BrakingBook.services book.now) row.now result }
+    ensures { Judged (lent_short (heading_of base) (tables_of lent.now [])) (drawn (heading_of base) (tables_of lent.now [])) mark approach (B.BrakingBook.emergencies book.now) (B.BrakingBook.services book.now) row.now result }
 {
-    examine(line, mark, approach, row, book)?;
-    let target = locate(line, mark)?;
-    let Some(approach) = Speed::from_kmh(approach) else {
-        return Err(Refusal::Speed);
-    };
+    let line = base.line(lent)?;
+    examine(&line, mark, approach, row, book)?;
+    let target = locate(&line, mark)?;
+    let approach = Speed::try_from(approach)?;
     Ok(Fixed { target, approach })
 }
 

@@ -11,10 +11,10 @@ mod lending;
 mod lent;
 mod open;
 mod passed;
-mod reading;
 mod refused;
 mod reports;
 mod running;
+mod way;
 
 pub use base::Base;
 pub use closed::ClosedSheet;

@@ -5,11 +5,11 @@ ghost use Rattle.entering.specs.Entering.{interval_fault, gradient_fault, restri
 ghost use Rattle.sheet.specs.Changes.{more_intervals, more_gradients, more_restrictions, more_marks, fewer_gradients, fewer_restrictions};
 ghost use Rattle.sheet.specs.Faults.{strike_fault, close_fault};
 ghost use Rattle.sheet.specs.States.{open_heading};
-ghost use Rattle.sheet.specs.Promises.{Blanks, Changed, Closes};
+ghost use Rattle.sheet.specs.Promises.{Blanks, Edits, Closes};
 
 use super::base::Base;
 use super::closed::ClosedSheet;
-use super::closing::close_fault;
+use super::closing::check_ready;
 use super::refused::Refused;
 use codes::{Class, Refusal, Speed};
 use entering::{enter_gradient, enter_interval, enter_mark, enter_restriction};
@@ -22,6 +22,7 @@ pub struct OpenSheet {
     pub(crate) base: Base,
 }
 
+#[tactic(auto, using(crate::proofs::Rulings::still_refused))]
 impl OpenSheet {
     // A blank sheet with its start, in metres. Refused by 6 where that is not 1,000 to 100,000.
     pub fn blank(start: u32) -> Result<OpenSheet, Refusal>
@@ -50,10 +51,9 @@ impl OpenSheet {
         number: u16,
         length: u32,
     ) -> Result<(), Refusal>
-        ensures { Changed (interval_fault table.old self.old.base.intervals number length) (more_intervals (open_heading self.old)) (slice_set table.old self.old.base.intervals (interval_of number length)) (open_heading self.old) table.old result (open_heading self.new) table.new }
+        ensures { Edits (interval_fault table.old self.old.base.intervals number length) more_intervals (slice_set table.old self.old.base.intervals (interval_of number length)) self.old table.old result self.new table.new }
     {
-        let count = enter_interval(table, self.base.intervals, number, length)?;
-        self.base.intervals = count;
+        self.base.intervals = enter_interval(table, self.base.intervals, number, length)?;
         Ok(())
     }
 
@@ -67,10 +67,9 @@ impl OpenSheet {
         to: u32,
         faldtal: i32,
     ) -> Result<(), Refusal>
-        ensures { Changed (gradient_fault table.old self.old.base.gradients from to faldtal) (more_gradients (open_heading self.old)) (slice_set table.old self.old.base.gradients (gradient_of from to faldtal)) (open_heading self.old) table.old result (open_heading self.new) table.new }
+        ensures { Edits (gradient_fault table.old self.old.base.gradients from to faldtal) more_gradients (slice_set table.old self.old.base.gradients (gradient_of from to faldtal)) self.old table.old result self.new table.new }
     {
-        let count = enter_gradient(table, self.base.gradients, from, to, faldtal)?;
-        self.base.gradients = count;
+        self.base.gradients = enter_gradient(table, self.base.gradients, from, to, faldtal)?;
         Ok(())
     }
 
@@ -84,10 +83,9 @@ impl OpenSheet {
         to: u32,
         kmh: u8,
     ) -> Result<(), Refusal>
-        ensures { Changed (restriction_fault table.old self.old.base.restrictions from to kmh) (more_restrictions (open_heading self.old)) (slice_set table.old self.old.base.restrictions (restriction_of from to kmh)) (open_heading self.old) table.old result (open_heading self.new) table.new }
+        ensures { Edits (restriction_fault table.old self.old.base.restrictions from to kmh) more_restrictions (slice_set table.old self.old.base.restrictions (restriction_of from to kmh)) self.old table.old result self.new table.new }
     {
-        let count = enter_restriction(table, self.base.restrictions, from, to, kmh)?;
-        self.base.restrictions = count;
+        self.base.restrictions = enter_restriction(table, self.base.restrictions, from, to, kmh)?;
         Ok(())
     }
 
@@ -101,10 +99,9 @@ impl OpenSheet {
         position: u32,
         danger: u32,
     ) -> Result<(), Refusal>
-        ensures { Changed (mark_fault table.old self.old.base.marks number position danger) (more_marks (open_heading self.old)) (slice_set table.old self.old.base.marks (mark_of number position danger)) (open_heading self.old) table.old result (open_heading self.new) table.new }
+        ensures { Edits (mark_fault table.old self.old.base.marks number position danger) more_marks (slice_set table.old self.old.base.marks (mark_of number position danger)) self.old table.old result self.new table.new }
     {
-        let count = enter_mark(table, self.base.marks, number, position, danger)?;
-        self.base.marks = count;
+        self.base.marks = enter_mark(table, self.base.marks, number, position, danger)?;
         Ok(())
     }
 
@@ -115,10 +112,9 @@ impl OpenSheet {
         table: &mut [Entry<Class>],
         place: usize,
     ) -> Result<(), Refusal>
-        ensures { Changed (strike_fault table.old self.old.base.gradients place) (fewer_gradients (open_heading self.old)) (closed_up table.old self.old.base.gradients place) (open_heading self.old) table.old result (open_heading self.new) table.new }
+        ensures { Edits (strike_fault table.old self.old.base.gradients place) fewer_gradients (closed_up table.old self.old.base.gradients place) self.old table.old result self.new table.new }
     {
-        let left = remove(table, self.base.gradients, place)?;
-        self.base.gradients = left;
+        self.base.gradients = remove(table, self.base.gradients, place)?;
         Ok(())
     }
 
@@ -130,12 +126,12 @@ impl OpenSheet {
         table: &mut [Entry<Speed>],
         place: usize,
     ) -> Result<(), Refusal>
-        ensures { Changed (strike_fault table.old self.old.base.restrictions place) (fewer_restrictions (open_heading self.old)) (closed_up table.old self.old.base.restrictions place) (open_heading self.old) table.old result (open_heading self.new) table.new }
+        ensures { Edits (strike_fault table.old self.old.base.restrictions place) fewer_restrictions (closed_up table.old self.old.base.restrictions place) self.old table.old result self.new table.new }
     {
-        let left = remove(table, self.base.restrictions, place)?;
-        self.base.restrictions = left;
+        self.base.restrictions = remove(table, self.base.restrictions, place)?;
         Ok(())
     }
+
     // Closes the sheet, so that rows are worked out and submitted. Refused by 10 where a table is lent under its count, and by 9
     // where no interval is in use or a mark in use stands in none; a refusal hands the sheet back as it was.
     pub fn close(
@@ -146,9 +142,7 @@ impl OpenSheet {
         ensures { Closes (close_fault (open_heading self) intervals.now marks.now) self result }
     {
         let base = self.base;
-        match close_fault(base, intervals, marks) {
-            Some(why) => Err(Refused { sheet: self, why }),
-            None => Ok(ClosedSheet { base }),
-        }
+        check_ready(base, intervals, marks).map_err(|why| Refused { sheet: self, why })?;
+        Ok(ClosedSheet { base })
     }
 }

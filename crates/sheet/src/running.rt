@@ -1,29 +1,30 @@
 // A sheet with a train under way over its passed row.
-ghost use Rattle.std.specs.Prelude.{◌≡◌, ◌≤◌, length};
+ghost use Rattle.std.specs.Prelude.{◌≡◌};
+ghost use Rattle.driving.specs.Driving.{Advances};
 ghost use Rattle.driving.specs.Journeys.{stands};
 ghost use Rattle.sheet.specs.Faults.{step_fault};
 ghost use Rattle.sheet.specs.States.{running_heading, passed_of, pass_of, book_of, journey_of, report_of};
-ghost use Rattle.sheet.specs.Promises.{MovesOn, Stepped};
+ghost use Rattle.sheet.specs.Ways.{GoesOn};
+ghost use Rattle.sheet.specs.Promises.{Stepped};
 
 use super::closed::ClosedSheet;
-use super::lending::{first_bytes, in_use, is_row_short};
+use super::lending::in_use;
 use super::passed::PassedSheet;
-use super::reading::has_strange_byte;
 use super::reports::Report;
+use super::way::Way;
 use books::BrakingBook;
-use codes::{Class, Code, Refusal};
-use driving::{Head, advance};
+use codes::{Class, Refusal};
+use driving::{Head, advance, is_standing};
 use ground::Entry;
 use rules::Interval;
 use trains::Train;
 
-// The passed sheet, the train, the code that it was told last, and the position of its head.
+// The passed sheet, the train, and where its head is, with the code that it was told last.
 #[derive(Drop)]
 pub struct RunningSheet<'b, B, T> {
     pub(crate) passed: PassedSheet<'b, B>,
     pub(crate) train: T,
-    pub(crate) told: Code,
-    pub(crate) position: u32,
+    pub(crate) head: Head,
 }
 
 impl<'b, B: BrakingBook, T: Train> RunningSheet<'b, B, T> {
@@ -34,8 +35,7 @@ impl<'b, B: BrakingBook, T: Train> RunningSheet<'b, B, T> {
         let RunningSheet {
             passed,
             train,
-            told: _,
-            position: _,
+            head: _,
         } = self;
         (passed.leave(), train)
     }
@@ -44,7 +44,7 @@ impl<'b, B: BrakingBook, T: Train> RunningSheet<'b, B, T> {
     fn stands(&self) -> bool
         ensures { result ≡ stands (journey_of T.Train.numbers self.now) }
     {
-        self.told.byte() == 0 && self.train.pace() == 0
+        is_standing(&self.train, self.head)
     }
 
     // Where the train is, how fast, and whether it stands.
@@ -52,56 +52,39 @@ impl<'b, B: BrakingBook, T: Train> RunningSheet<'b, B, T> {
         ensures { result ≡ report_of (journey_of T.Train.numbers self.now) }
     {
         Report {
-            position: self.position,
+            position: self.head.position,
             pace: self.train.pace(),
             stands: self.stands(),
         }
     }
 
-    // Why the train cannot step: 10 where a table is lent under its count or the row table has fewer than 64 bytes, and 11 where a
-    // byte of the passed row is no code.
-    fn step_fault(
-        &self,
-        intervals: &[Interval],
-        gradients: &[Entry<Class>],
-        row_table: &[u8],
-    ) -> Option<Refusal>
-        ensures { result ≡ step_fault (running_heading self.now) intervals.now gradients.now row_table.now (pass_of (passed_of self.now)) }
+    // Moves the train one metre on over the intervals in use and what it reads on its way.
+    fn move_on(&mut self, intervals: &[Interval], way: Way<'_>)
+        ensures passed { passed_of self.new ≡ passed_of self.old }
+        ensures advances { Advances (B.BrakingBook.emergencies (book_of (passed_of self.old))) (running_heading self.old).start intervals.now way.entry.gradients.now way.entry.row.now (journey_of T.Train.numbers self.old) (journey_of T.Train.numbers self.new) }
     {
-        let base = self.passed.base;
-        let fixed = self.passed.fixed;
-        if intervals.len() < base.intervals
-            || gradients.len() < base.gradients
-            || is_row_short(row_table)
-        {
-            return Some(Refusal::Size);
-        }
-        if has_strange_byte(first_bytes(row_table, fixed.target.held.interval)) {
-            return Some(Refusal::Byte);
-        }
-        None
+        let book = self.passed.book;
+        let start = self.passed.base.start;
+        self.head = advance(
+            &mut self.train,
+            book,
+            start,
+            intervals,
+            way.gradients,
+            way.row,
+            self.head,
+        );
     }
 
-    // Moves the train one metre on over the records in use and the passed row.
-    fn move_on(&mut self, intervals: &[Interval], gradients: &[Entry<Class>], row_table: &[u8])
-        requires intervals { self.old.passed.base.intervals ≤ length intervals.now }
-        requires gradients { self.old.passed.base.gradients ≤ length gradients.now }
-        requires row { 64 ≤ length row_table.now }
-        ensures { MovesOn (B.BrakingBook.emergencies (book_of (passed_of self.old))) T.Train.numbers self.old intervals.now gradients.now row_table.now self.new }
+    // Moves the train one metre on, unless it stands, and tells where it then is.
+    fn go_on(&mut self, intervals: &[Interval], way: Way<'_>) -> Report
+        ensures { GoesOn (B.BrakingBook.emergencies (book_of (passed_of self.old))) T.Train.numbers (stands (journey_of T.Train.numbers self.old)) self.old intervals.now way.entry result self.new }
     {
-        let base = self.passed.base;
-        let fixed = self.passed.fixed;
-        let book = self.passed.book;
-        let line = in_use(intervals, base.intervals);
-        let ground = in_use(gradients, base.gradients);
-        let row = first_bytes(row_table, fixed.target.held.interval);
-        let head = Head {
-            position: self.position,
-            told: self.told,
-        };
-        let after = advance(&mut self.train, book, base.start, line, ground, row, head);
-        self.told = after.told;
-        self.position = after.position;
+        if self.stands() {
+            return self.report();
+        }
+        self.move_on(intervals, way);
+        self.report()
     }
 
     // Moves the train one metre on, unless it stands, and reports where it is. It rolls the metre, with that metre's class; where it
@@ -116,12 +99,8 @@ impl<'b, B: BrakingBook, T: Train> RunningSheet<'b, B, T> {
     ) -> Result<Report, Refusal>
         ensures { Stepped (B.BrakingBook.emergencies (book_of (passed_of self.old))) T.Train.numbers (step_fault (running_heading self.old) intervals.now gradients.now row_table.now (pass_of (passed_of self.old))) (stands (journey_of T.Train.numbers self.old)) self.old intervals.now gradients.now row_table.now result self.new }
     {
-        if let Some(why) = self.step_fault(intervals, gradients, row_table) {
-            return Err(why);
-        }
-        if !self.stands() {
-            self.move_on(intervals, gradients, row_table);
-        }
-        Ok(self.report())
+        let intervals = in_use(intervals, self.passed.base.intervals)?;
+        let way = self.passed.way(gradients, row_table)?;
+        Ok(self.go_on(intervals, way))
     }
 }
