@@ -1,18 +1,16 @@
--- The rules for a code by itself and the stop ground can be decided, and every pace has a lowest speed not below it. Assumes nothing.
-use Rattle.std.proofs.Common.{◌≡◌, ℕ, ◌+◌, ◌-◌, ◌<◌, ◌≤◌, ◌⊎◌, List, [], ◌∷◌, refl, ap, inl, inr, arith}
+-- The rules for a code by itself and the stop ground can be decided. Assumes nothing.
+use Rattle.std.proofs.Common.{◌≡◌, ℕ, ◌+◌, ◌-◌, ◌⊎◌, List, [], ◌∷◌, ap, inl, inr, arith}
 use native.Mathlib.Decide.{map_dec, dec_le, dec_lt, ℕ_discrete}
 use Rattle.std.specs.List.{AllByRecursion}
-use Rattle.std.proofs.ByRecursion.{All-weaker}
 use Rattle.codes.specs.declared.speeds.Speed.{Speed}
-use Rattle.codes.specs.declared.speeds.Speed.TheVariants.{V30, V40, V50, V60, V70, V80, V90, V100, V120}
 use Rattle.codes.specs.declared.speeds.Code.{Code}
 use Rattle.codes.specs.declared.speeds.Code.TheVariants.{Stop, Go}
 use Rattle.codes.specs.declared.gradients.Class.{Class}
-use Rattle.codes.specs.Speeds.{kmh, byte, speeds}
+use Rattle.codes.specs.Speeds.{kmh, byte, codes}
 use Rattle.laws.specs.Books.{Emergencies, Services}
 use Rattle.rules.specs.Tracks.{Track, Mark, begin_of, end_of}
 use Rattle.rules.specs.Rules.{train_length, Down, Halts, class_from, Touching, Ahead, Fits, Stops}
-use Rattle.trains.specs.Braking.{Lowest}
+use Rattle.trains.proofs.Rising.{each_code}
 
 -- ---- what is decided part by part
 
@@ -35,7 +33,7 @@ dec_all : {X : Type 0} (P : X → Type 0) → ((x : X) → Dec (P x)) → (xs : 
 dec_all P d [] = yes tt
 dec_all P d (x ∷ xs) = dec-× (d x) (dec_all P d xs)
 
--- ---- the ten codes and the nine speeds
+-- ---- the ten codes
 
 -- codes are told apart by their bytes
 pub same_byte : (c d : Code) → byte c ≡ byte d → c ≡ d
@@ -43,40 +41,6 @@ same_byte c d e = grind arith
 
 pub same_code : (c d : Code) → Dec (c ≡ d)
 same_code c d = map_dec (same_byte c d) (ap byte) (ℕ_discrete (byte c) (byte d))
-
-each_speed : (P : Speed → Type 0) → AllByRecursion P speeds → (v : Speed) → P v
-each_speed P all V30 = all.0
-each_speed P all V40 = all.1.0
-each_speed P all V50 = all.1.1.0
-each_speed P all V60 = all.1.1.1.0
-each_speed P all V70 = all.1.1.1.1.0
-each_speed P all V80 = all.1.1.1.1.1.0
-each_speed P all V90 = all.1.1.1.1.1.1.0
-each_speed P all V100 = all.1.1.1.1.1.1.1.0
-each_speed P all V120 = all.1.1.1.1.1.1.1.1.0
-
--- the lowest of 120 km/h and the speeds of a list that is not below a pace
-lowest_in : (pace : ℕ) → pace ≤ 120 → (vs : List Speed) → (v : Speed) × (pace ≤ kmh v) × AllByRecursion (λ u. pace ≤ kmh u → kmh v ≤ kmh u) vs
-lowest_in pace most [] = (V120, most, tt)
-lowest_in pace most (u ∷ us) =
-    let rest = lowest_in pace most us in
-    elim (dec_le pace (kmh u)) [
-      | no under ↦ (rest.0, rest.1, (λ reaches. absurd (under reaches), rest.2))
-      | yes over ↦ elim (dec_le (kmh rest.0) (kmh u)) [
-        | yes low ↦ (rest.0, rest.1, (λ reaches. low, rest.2))
-        | no high ↦ (u, over, (λ reaches. omega arith, All-weaker (λ v. pace ≤ kmh v → kmh rest.0 ≤ kmh v) (λ v. pace ≤ kmh v → kmh u ≤ kmh v) (λ v least reaches. let l = least reaches in omega arith) us rest.2))
-      ]
-    ]
-
--- a pace of a moving train has a lowest code not below it, and that is a speed
-pub lowest_speed : (pace : ℕ) → 0 < pace → pace ≤ 120 → (v : Speed) × Lowest pace (Go v)
-lowest_speed pace moves most =
-    let found = lowest_in pace most speeds in
-    (found.0, record { reaches = found.1; lowest = least found.0 found.2 })
-  where
-    least : (v : Speed) → AllByRecursion (λ u. pace ≤ kmh u → kmh v ≤ kmh u) speeds → (c : Code) → pace ≤ byte c → kmh v ≤ byte c
-    least v all Stop reaches = absurd (omega arith)
-    least v all (Go u) reaches = each_speed (λ u. pace ≤ kmh u → kmh v ≤ kmh u) all u reaches
 
 -- ---- the rules and the stop ground
 
@@ -103,19 +67,13 @@ module _ (track : Track) (mark : Mark) (E : Emergencies) (D : Services) where
       (dec-× (dec_halts (D (class_from track mark E D j mark.position)) c (mark.position - end_of track j))
       (dec_halts (λ v. E (class_from track mark E D j mark.danger) v Stop) c (mark.danger - end_of track j)))))
 
+  -- only stop obeys the rules
+  abbrev Only : ℕ → Code → Type 0
+  Only j c = Fits track mark E D j c → c ≡ Stop
+
   pub dec_stops : (j : ℕ) → Dec (Stops track mark E D j)
-  dec_stops j = map_dec stops fails (dec_all _ (λ v. dec-→ (dec_fits j (Go v)) (no (λ z. z))) speeds)
+  dec_stops j = map_dec (each_code (Only j)) (λ stops. listed stops codes) (dec_all (Only j) (λ c. dec-→ (dec_fits j c) (same_code c Stop)) codes)
     where
-      stops : AllByRecursion (λ v. Fits track mark E D j (Go v) → ⊥) speeds → Stops track mark E D j
-      stops none Stop fits = refl
-      stops none (Go v) fits = absurd (each_speed (λ v. Fits track mark E D j (Go v) → ⊥) none v fits)
-
-      fails : Stops track mark E D j → AllByRecursion (λ v. Fits track mark E D j (Go v) → ⊥) speeds
-      fails only = every speeds
-        where
-          never : (v : Speed) → Fits track mark E D j (Go v) → ⊥
-          never v fits = let stop = only (Go v) fits in let z : ◌≡◌ {A = ℕ} 0 1 = cc in omega arith
-
-          every : (vs : List Speed) → AllByRecursion (λ v. Fits track mark E D j (Go v) → ⊥) vs
-          every [] = tt
-          every (v ∷ vs) = (never v, every vs)
+      listed : Stops track mark E D j → (cs : List Code) → AllByRecursion (Only j) cs
+      listed stops [] = tt
+      listed stops (c ∷ cs) = (stops c, listed stops cs)

@@ -13,7 +13,7 @@ use Rattle.rules.specs.Tracks.{Track, Mark, end_of, class_over}
 use Rattle.rules.specs.Rules.{train_length, Down, class_from}
 use Rattle.trains.specs.Braking.{Numbers, Promise, Hears, Rolls}
 use Rattle.driving.specs.Journeys.{class_behind, class_at}
-use Rattle.driving.proofs.Decided.{lowest_speed}
+use Rattle.trains.proofs.Rising.{lowest_speed}
 
 at_most_120 : (c : Code) → byte c ≤ 120
 at_most_120 c = grind arith

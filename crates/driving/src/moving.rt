@@ -57,18 +57,14 @@ fn roll_from<B: BrakingBook, T: Train>(
 fn next_position(position: u32) -> u32
     ensures { result ≡ min (position + 1) last_position }
 {
-    if position < LAST_POSITION {
-        position + 1
-    } else {
-        LAST_POSITION
-    }
+    position.saturating_add(1).min(LAST_POSITION)
 }
 
 // Whether a train stands: pace 0, with stop told last.
 pub fn is_standing<T: Train>(train: &T, head: Head) -> bool
     ensures { result ≡ stands (under_way head (T.Train.numbers train.now)) }
 {
-    head.told.byte() == 0 && train.pace() == 0
+    head.told == Code::Stop && train.pace() == 0
 }
 
 // Sets a train off at the start: it hears the first code, with the class of the 170 m behind. Answers where it is.

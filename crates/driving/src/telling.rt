@@ -15,34 +15,28 @@ use rules::Interval;
 fn code_of(byte: u8) -> Code
     ensures { result ≡ read_code byte }
 {
-    Code::from_byte(byte).unwrap_or(Code::Stop)
+    Code::try_from(byte).unwrap_or(Code::Stop)
 }
 
 // The code of the interval at a place of a row, counted from 0; stop where the byte is no code, and behind the row.
 pub fn code_in(row: &[u8], place: usize) -> Code
     ensures { result ≡ code_in row.now place }
 {
-    if place >= row.len() {
-        return Code::Stop;
-    }
-    code_of(row[place])
+    row.get(place).copied().map_or(Code::Stop, code_of)
 }
 
 // How long the interval at a place is, in metres; 0 behind the last.
 fn length_at(intervals: &[Interval], place: usize) -> u32
     ensures { result ≡ slice_index (lengths_of intervals.now) place }
 {
-    if place >= intervals.len() {
-        return 0;
-    }
-    intervals[place].length
+    intervals.get(place).map_or(0, |interval| interval.length)
 }
 
 // Whether a train hears the code of an interval: it is where that begins, and the code is not the one told last.
 fn is_told(begin: u64, position: u64, code: Code, told: Code) -> bool
     ensures { result ≡ is_told begin position code told }
 {
-    begin == position && code.byte() != told.byte()
+    begin == position && code != told
 }
 
 // The code that a train hears at a position: that of the first interval up to the row's last that begins there and whose code is
@@ -58,11 +52,11 @@ pub(super) fn told_at(
 {
     let sought = position as u64;
     let mut begin = start as u64;
-    for place in 0..row.len() {
+    for (place, &byte) in row.iter().enumerate() {
         if sought < begin {
             return None;
         }
-        let code = code_in(row, place);
+        let code = code_of(byte);
         if is_told(begin, sought, code, told) {
             return Some(code);
         }

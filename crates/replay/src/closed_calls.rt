@@ -5,7 +5,6 @@ use super::answers::Answer;
 use super::any_sheet::AnySheet;
 use super::calls::{Action, Call};
 use super::lending::lent_parts;
-use super::made::Made;
 use books::BrakingBook;
 use codes::{Class, Speed};
 use ground::Entry;
@@ -23,20 +22,18 @@ pub(super) fn on_closed<'b, 't, B: BrakingBook, T: Train + Drop>(
     restrictions: &'t [Entry<Speed>],
     marks: &'t [StopMark],
     row_table: &mut [u8],
-) -> Made<'b, B, T>
-    ensures made { Performed (B.BrakingBook.emergencies book.now) (B.BrakingBook.services book.now) (closed_sheet sheet (five_tables intervals.now gradients.now restrictions.now marks.now row_table.old)) (call_of T.Train.numbers call) (outcome_of T.Train.numbers result.answer) (sheet_of T.Train.numbers result.sheet (five_tables intervals.now gradients.now restrictions.now marks.now row_table.new)) }
-    ensures by { By book.now result.sheet }
+) -> (AnySheet<'b, B, T>, Answer<T>)
+    ensures made { Performed (B.BrakingBook.emergencies book.now) (B.BrakingBook.services book.now) (closed_sheet sheet (five_tables intervals.now gradients.now restrictions.now marks.now row_table.old)) (call_of T.Train.numbers call) (outcome_of T.Train.numbers result.1) (sheet_of T.Train.numbers result.0 (five_tables intervals.now gradients.now restrictions.now marks.now row_table.new)) }
+    ensures by { By book.now result.0 }
 {
     let Call {
         lent: lending,
         action,
     } = call;
     let lent = lent_parts(lending, intervals, gradients, restrictions, marks);
+    // Each arm returns, so that each is proved by itself.
     match action {
-        Action::Reopen => return Made {
-            sheet: AnySheet::Open(sheet.reopen()),
-            answer: Answer::Done,
-        },
+        Action::Reopen => return (AnySheet::Open(sheet.reopen()), Answer::Done),
         Action::WorkOut {
             mark,
             approach,
@@ -44,14 +41,11 @@ pub(super) fn on_closed<'b, 't, B: BrakingBook, T: Train + Drop>(
         } => {
             let mut row = bytes;
             match sheet.work_out(&lent, mark, approach, book, row.as_mut_slice()) {
-                Ok((letter, place)) => return Made {
-                    sheet: AnySheet::Closed(sheet),
-                    answer: Answer::Worked { row, letter, place },
-                },
-                Err(why) => return Made {
-                    sheet: AnySheet::Closed(sheet),
-                    answer: Answer::Unworked { row, why },
-                },
+                Ok((letter, place)) => return (
+                    AnySheet::Closed(sheet),
+                    Answer::Worked { row, letter, place },
+                ),
+                Err(why) => return (AnySheet::Closed(sheet), Answer::Unworked { row, why }),
             }
         }
         Action::Submit {
@@ -62,28 +56,19 @@ pub(super) fn on_closed<'b, 't, B: BrakingBook, T: Train + Drop>(
             let room = lending.row.min(row_table.len());
             match sheet.submit(
                 &lent,
-                &mut row_table[0..room],
+                &mut row_table[..room],
                 mark,
                 approach,
                 row.as_slice(),
                 book,
             ) {
-                Ok(passed) => return Made {
-                    sheet: AnySheet::Passed(passed),
-                    answer: Answer::Done,
-                },
+                Ok(passed) => return (AnySheet::Passed(passed), Answer::Done),
                 Err(refused) => {
                     let Refused { sheet, why } = refused;
-                    return Made {
-                        sheet: AnySheet::Closed(sheet),
-                        answer: Answer::Refused(why),
-                    };
+                    return (AnySheet::Closed(sheet), Answer::Refused(why));
                 }
             }
         }
-        _ => return Made {
-            sheet: AnySheet::Closed(sheet),
-            answer: Answer::NotTaken,
-        },
+        _ => return (AnySheet::Closed(sheet), Answer::NotTaken),
     }
 }

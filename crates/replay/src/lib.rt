@@ -2,13 +2,11 @@
 
 #![tactic(auto)]
 
-mod answering;
 mod answers;
 mod any_sheet;
 mod calls;
 mod closed_calls;
 mod lending;
-mod made;
 mod open_calls;
 mod passed_calls;
 mod performing;

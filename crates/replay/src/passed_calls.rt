@@ -8,7 +8,6 @@ use super::answers::Answer;
 use super::any_sheet::AnySheet;
 use super::calls::{Action, Call};
 use super::lending::part;
-use super::made::Made;
 use books::BrakingBook;
 use codes::{Class, Speed};
 use ground::Entry;
@@ -22,11 +21,12 @@ pub(super) fn on_passed<'b, B: BrakingBook, T: Train + Drop>(
     call: Call<T>,
     gradients: &[Entry<Class>],
     row_table: &[u8],
-) -> Made<'b, B, T>
-    ensures made { (D : Services) (intervals : List Interval) (restrictions : List (Entry Speed)) (marks : List StopMark) → Performed (B.BrakingBook.emergencies (book_of sheet.entry)) D (passed_sheet sheet.entry (five_tables intervals gradients.now restrictions marks row_table.now)) (call_of T.Train.numbers call) (outcome_of T.Train.numbers result.answer) (sheet_of T.Train.numbers result.sheet (five_tables intervals gradients.now restrictions marks row_table.now)) }
-    ensures by { By (book_of sheet.entry) result.sheet }
+) -> (AnySheet<'b, B, T>, Answer<T>)
+    ensures made { (D : Services) (intervals : List Interval) (restrictions : List (Entry Speed)) (marks : List StopMark) → Performed (B.BrakingBook.emergencies (book_of sheet.entry)) D (passed_sheet sheet.entry (five_tables intervals gradients.now restrictions marks row_table.now)) (call_of T.Train.numbers call) (outcome_of T.Train.numbers result.1) (sheet_of T.Train.numbers result.0 (five_tables intervals gradients.now restrictions marks row_table.now)) }
+    ensures by { By (book_of sheet.entry) result.0 }
 {
     let Call { lent, action } = call;
+    // Each arm returns, so that each is proved by itself.
     match action {
         Action::SetOff { train } => {
             match sheet.set_off(
@@ -36,30 +36,18 @@ pub(super) fn on_passed<'b, B: BrakingBook, T: Train + Drop>(
             ) {
                 Ok(running) => {
                     let report = running.report();
-                    return Made {
-                        sheet: AnySheet::Running(running),
-                        answer: Answer::At(report),
-                    };
+                    return (AnySheet::Running(running), Answer::At(report));
                 }
                 Err(refused) => {
                     let Refused {
                         sheet: (sheet, train),
                         why,
                     } = refused;
-                    return Made {
-                        sheet: AnySheet::Passed(sheet),
-                        answer: Answer::Kept { train, why },
-                    };
+                    return (AnySheet::Passed(sheet), Answer::Kept { train, why });
                 }
             }
         }
-        Action::Leave => return Made {
-            sheet: AnySheet::Closed(sheet.leave()),
-            answer: Answer::Done,
-        },
-        _ => return Made {
-            sheet: AnySheet::Passed(sheet),
-            answer: Answer::NotTaken,
-        },
+        Action::Leave => return (AnySheet::Closed(sheet.leave()), Answer::Done),
+        _ => return (AnySheet::Passed(sheet), Answer::NotTaken),
     }
 }

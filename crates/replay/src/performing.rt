@@ -1,10 +1,10 @@
 // One call over a sheet in any state.
 ghost use Rattle.replay.specs.Meaning.{call_of, outcome_of, sheet_of, five_tables, By, Performed};
 
+use super::answers::Answer;
 use super::any_sheet::AnySheet;
 use super::calls::Call;
 use super::closed_calls::on_closed;
-use super::made::Made;
 use super::open_calls::on_open;
 use super::passed_calls::on_passed;
 use super::running_calls::on_running;
@@ -24,11 +24,12 @@ pub(super) fn perform<'b, B: BrakingBook, T: Train + Drop>(
     restrictions: &mut [Entry<Speed>],
     marks: &mut [StopMark],
     row_table: &mut [u8],
-) -> Made<'b, B, T>
+) -> (AnySheet<'b, B, T>, Answer<T>)
     requires { By book.now sheet }
-    ensures made { Performed (B.BrakingBook.emergencies book.now) (B.BrakingBook.services book.now) (sheet_of T.Train.numbers sheet.entry (five_tables intervals.old gradients.old restrictions.old marks.old row_table.old)) (call_of T.Train.numbers call) (outcome_of T.Train.numbers result.answer) (sheet_of T.Train.numbers result.sheet (five_tables intervals.new gradients.new restrictions.new marks.new row_table.new)) }
-    ensures by { By book.now result.sheet }
+    ensures made { Performed (B.BrakingBook.emergencies book.now) (B.BrakingBook.services book.now) (sheet_of T.Train.numbers sheet.entry (five_tables intervals.old gradients.old restrictions.old marks.old row_table.old)) (call_of T.Train.numbers call) (outcome_of T.Train.numbers result.1) (sheet_of T.Train.numbers result.0 (five_tables intervals.new gradients.new restrictions.new marks.new row_table.new)) }
+    ensures by { By book.now result.0 }
 {
+    // Each arm returns, so that each is proved by itself.
     match sheet {
         AnySheet::Open(sheet) => return on_open(
             sheet,

@@ -44,7 +44,7 @@ pub fn replay<'b, B: BrakingBook, T: Train + Drop>(
     };
     let mut sheet = AnySheet::Open(open);
     for call in calls {
-        let made = perform(
+        let (after, answer) = perform(
             sheet,
             call,
             book,
@@ -54,8 +54,8 @@ pub fn replay<'b, B: BrakingBook, T: Train + Drop>(
             marks,
             row_table,
         );
-        sheet = made.sheet;
-        answers.push_reserved(made.answer);
+        sheet = after;
+        answers.push_reserved(answer);
     }
     Ok(Replayed { answers, sheet })
 }

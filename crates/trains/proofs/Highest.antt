@@ -1,14 +1,17 @@
 -- The highest promised pace, from the code that a train came with and the lowest code that it has to be down to. Assumes nothing.
-use Rattle.std.proofs.Common.{◌≡◌, ℕ, ◌<◌, ◌≤◌, min, max, true, not, ◌&&◌, ltb, leb, Some, None, subst, arith}
+use Rattle.std.proofs.Common.{◌≡◌, ℕ, ◌<◌, ◌≤◌, min, max, true, not, ◌&&◌, ltb, leb, Some, None, Option, subst, arith}
+use Rattle.std.specs.Option.{option_map_or}
+use Rattle.std.specs.List.{find}
 use borrow.Author.Tests.{both_ways}
 use Rattle.std.proofs.lemmas.Bool.Decides.{nat_tests}
 use Rattle.codes.specs.declared.speeds.Speed.{Speed}
 use Rattle.codes.specs.declared.speeds.Code.{Code}
 use Rattle.codes.specs.declared.speeds.Code.TheVariants.{Go}
-use Rattle.codes.specs.Speeds.{kmh, byte}
+use Rattle.codes.specs.Speeds.{kmh, byte, codes}
 use Rattle.laws.specs.Books.{Emergencies}
 use Rattle.trains.specs.Braking.{Numbers, Lowest, Promise}
-use Rattle.trains.specs.Latest.{at_pace, down_to, Least, Latest}
+use Rattle.trains.specs.Latest.{at_pace, down_to, Latest}
+use Rattle.trains.proofs.Rising.{Least, least_found, reaches, lowest_found}
 
 pub byte_within : (c : Code) → byte c ≤ 120
 byte_within c = grind arith
@@ -45,19 +48,20 @@ module _ (E : Emergencies) (old : ℕ) (n : Numbers) where
   due_from_promise p v came promise r due =
       let told = test_tells _ _ _ _ _ due in promise.braked v r came told.0 told.1 told.2
 
-  -- a train that has to be down to no code yet
-  pub latest_none : {p : ℕ} {v : Speed} → Lowest n.carried (Go v) → Least (down_to E n v) None → p ≡ most → Latest E old (at_pace n p)
-  latest_none {p} {v} came none is =
+  -- the highest pace of a train that has to be down to no code yet, or to some lowest code
+  latest_least : {p : ℕ} {v : Speed} → Lowest n.carried (Go v) → (o : Option Code) → Least (down_to E n v) o → p ≡ option_map_or (λ code. min most (byte code)) o most
+      → Latest E old (at_pace n p)
+  latest_least {p} {v} came None none is =
       record {
         promised = promise_from_due p v came (omega arith) (λ r due. absurd (both_ways _ (none r) due));
         highest = λ p promise. let within = promise.steady in omega arith;
       }
-
-  -- a train that has to be down to some code
-  pub latest_some : {p : ℕ} {v : Speed} (low : Code) → Lowest n.carried (Go v) → Least (down_to E n v) (Some low) → p ≡ min most (byte low)
-      → Latest E old (at_pace n p)
-  latest_some {p} {v} low came least is =
+  latest_least {p} {v} came (Some low) least is =
       record {
         promised = promise_from_due p v came (omega arith) (λ r due. let above = least.1 r due in omega arith);
         highest = λ q promise. let down = due_from_promise q v came promise low least.0 in let within = promise.steady in omega arith;
       }
+
+  pub latest_due : {p : ℕ} (v : Speed) → find (reaches n.carried) codes ≡ Some (Go v)
+      → p ≡ option_map_or (λ code. min most (byte code)) (find (down_to E n v) codes) most → Latest E old (at_pace n p)
+  latest_due v came is = latest_least (lowest_found n.carried (Go v) came) (find (down_to E n v) codes) (least_found (down_to E n v)) is

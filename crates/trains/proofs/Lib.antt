@@ -1,3 +1,3 @@
-mod Rising
+pub mod Rising
 mod Highest
 mod FirstMetre

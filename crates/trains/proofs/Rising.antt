@@ -1,72 +1,84 @@
--- The lowest code that passes a test, from the places of the ten codes that were passed over. Assumes nothing.
-use Rattle.std.proofs.Common.{◌≡◌, ℕ, zero, suc, ◌+◌, ◌<◌, ◌≤◌, Bool, true, false, leb, get_or, Some, refl, subst, arith, below_more, le-leb, leb-false}
+-- The first code that passes a test is the lowest, since the ten codes stand rising. Assumes nothing.
+use Rattle.std.proofs.Common.{◌≡◌, ℕ, ◌<◌, ◌≤◌, Bool, true, false, cond, leb, List, [], ◌∷◌, Some, None, Option, refl, subst, arith, rules, le-leb, leb-true, leb-false}
+use Rattle.std.specs.List.{find, AllByRecursion}
+use Rattle.std.proofs.ByRecursion.{All-weaker}
 use borrow.Author.Tests.{both_ways}
-use Rattle.codes.specs.declared.speeds.Speed.TheVariants.{V120}
+use Rattle.codes.specs.declared.speeds.Speed.{Speed}
+use Rattle.codes.specs.declared.speeds.Speed.TheVariants.{V30, V40, V50, V60, V70, V80, V90, V100, V120}
 use Rattle.codes.specs.declared.speeds.Code.{Code}
 use Rattle.codes.specs.declared.speeds.Code.TheVariants.{Stop, Go}
 use Rattle.codes.specs.Speeds.{byte, codes}
-use Rattle.laws.specs.Questions.{rank}
 use Rattle.trains.specs.Braking.{Lowest}
-use Rattle.trains.specs.Latest.{Least}
 
-placed : (c : Code) → (rank c < 10) × (get_or codes (rank c) Stop ≡ c)
-placed c = grind arith
+-- what holds of the ten codes holds of every code
+pub each_code : (P : Code → Type 0) → AllByRecursion P codes → (c : Code) → P c
+each_code P all Stop = all.0
+each_code P all (Go V30) = all.1.0
+each_code P all (Go V40) = all.1.1.0
+each_code P all (Go V50) = all.1.1.1.0
+each_code P all (Go V60) = all.1.1.1.1.0
+each_code P all (Go V70) = all.1.1.1.1.1.0
+each_code P all (Go V80) = all.1.1.1.1.1.1.0
+each_code P all (Go V90) = all.1.1.1.1.1.1.1.0
+each_code P all (Go V100) = all.1.1.1.1.1.1.1.1.0
+each_code P all (Go V120) = all.1.1.1.1.1.1.1.1.1.0
 
-rank_lower : (c d : Code) → byte c < byte d → rank c < rank d
-rank_lower c d l = grind arith
+-- no code of a list is above one after it
+abbrev Rises : List Code → Type 0
+Rises [] = Unit {0}
+Rises (c ∷ cs) = AllByRecursion (λ d. byte c ≤ byte d) cs × Rises cs
 
-rank_at : (i : ℕ) → i < 10 → rank (get_or codes i Stop) ≡ i
-rank_at zero l = refl
-rank_at (suc zero) l = refl
-rank_at (suc (suc zero)) l = refl
-rank_at (suc (suc (suc zero))) l = refl
-rank_at (suc (suc (suc (suc zero)))) l = refl
-rank_at (suc (suc (suc (suc (suc zero))))) l = refl
-rank_at (suc (suc (suc (suc (suc (suc zero)))))) l = refl
-rank_at (suc (suc (suc (suc (suc (suc (suc zero))))))) l = refl
-rank_at (suc (suc (suc (suc (suc (suc (suc (suc zero)))))))) l = refl
-rank_at (suc (suc (suc (suc (suc (suc (suc (suc (suc zero))))))))) l = refl
-rank_at (suc (suc (suc (suc (suc (suc (suc (suc (suc (suc i)))))))))) l = absurd (omega arith)
+module _ (test : Code → Bool) where
+  -- o is the lowest code of a list that passes the test, or none where none passes
+  abbrev LeastOf : List Code → Option Code → Type 0
+  LeastOf cs None = AllByRecursion (λ c. test c ≡ false) cs
+  LeastOf cs (Some least) = (test least ≡ true) × AllByRecursion (λ c. test c ≡ true → byte least ≤ byte c) cs
 
--- the test fails at the first i codes
-pub record Failed (test : Code → Bool) (i : ℕ) : Type 0 where
-  pub places : (k : ℕ) → k < i → test (get_or codes k Stop) ≡ false
+  -- o is the lowest code that passes the test, or none where none passes
+  abbrev pub Least : Option Code → Type 0
+  Least None = (c : Code) → test c ≡ false
+  Least (Some least) = (test least ≡ true) × ((c : Code) → test c ≡ true → byte least ≤ byte c)
 
-module _ {test : Code → Bool} where
-  pub failed_none : Failed test 0
-  failed_none = record { places = λ k l. absurd (omega arith) }
+  least_of : (cs : List Code) → Rises cs → LeastOf cs (find test cs)
+  least_of [] rises = tt
+  least_of (c ∷ cs) rises = next (test c) refl (find test cs) (least_of cs rises.1)
+    where
+      next : (b : Bool) → test c ≡ b → (o : Option Code) → LeastOf cs o → LeastOf (c ∷ cs) (cond b (Some c) o)
+      next true e o least = (e, (λ _. omega arith, All-weaker (λ d. byte c ≤ byte d) (λ d. test d ≡ true → byte c ≤ byte d) (λ d above _. above) cs rises.0))
+      next false e None none = (e, none)
+      next false e (Some v) least = (least.0, (λ passes. absurd (both_ways (test c) e passes), least.1))
 
-  pub failed_more : {i : ℕ} → Failed test i → test (get_or codes i Stop) ≡ false → Failed test (i + 1)
-  failed_more failed here = record { places = below_more _ _ failed.places here }
+  -- the first of the ten codes that passes a test is the lowest
+  pub least_found : Least (find test codes)
+  least_found = every (find test codes) (least_of codes (search rules))
+    where
+      every : (o : Option Code) → LeastOf codes o → Least o
+      every None none = each_code (λ c. test c ≡ false) none
+      every (Some v) least = (least.0, each_code (λ c. test c ≡ true → byte v ≤ byte c) least.1)
 
-  failed_before : {i : ℕ} → Failed test i → (c : Code) → rank c < i → test c ≡ false
-  failed_before failed c l = subst (λ d. test d ≡ false) (placed c).1 (failed.places (rank c) l)
+module _ (pace : ℕ) where
+  -- the test whether a code is not below the pace
+  abbrev pub reaches : Code → Bool
+  reaches c = leb pace (byte c)
 
-  -- where it fails at all ten, no code passes
-  pub failed_all : {i : ℕ} → Failed test i → 10 ≤ i → (c : Code) → test c ≡ false
-  failed_all failed l c = let within = (placed c).0 in failed_before failed c (omega arith)
+  least_from : {o : Option Code} → find reaches codes ≡ o → Least reaches o
+  least_from first = subst (Least reaches) first (least_found reaches)
 
-  -- the next code is not above one that passes
-  next_lowest : {i : ℕ} → Failed test i → i < 10 → (c : Code) → test c ≡ true → byte (get_or codes i Stop) ≤ byte c
-  next_lowest {i} failed within c passes =
-      let here = rank_at i within in
-      let no_lower : byte c < byte (get_or codes i Stop) → ⊥ =
-      λ low. let before = rank_lower c (get_or codes i Stop) low in both_ways (test c) (failed_before failed c (omega arith)) passes
-      in
-      omega arith
+  -- the first code that reaches the pace is the lowest,
+  pub lowest_found : (v : Code) → find reaches codes ≡ Some v → Lowest pace v
+  lowest_found v first =
+      let least = least_from first in
+      record { reaches = leb-true pace (byte v) least.0; lowest = λ c reached. least.1 c (le-leb pace (byte c) reached) }
 
-  -- where it passes, it is the lowest
-  pub least_next : {i : ℕ} → Failed test i → i < 10 → test (get_or codes i Stop) ≡ true → Least test (Some (get_or codes i Stop))
-  least_next failed within passes = (passes, next_lowest failed within)
+  -- and only a pace above 120 km/h has none
+  none_reaches : find reaches codes ≡ None → 120 < pace
+  none_reaches none = leb-false pace 120 (least_from none (Go V120))
 
--- the test whether a code is not below a pace
-abbrev pub reaches : ℕ → Code → Bool
-reaches pace c = leb pace (byte c)
-
-pub lowest_next : {pace i : ℕ} → Failed (reaches pace) i → i < 10 → pace ≤ byte (get_or codes i Stop) → Lowest pace (get_or codes i Stop)
-lowest_next {pace} failed within reached =
-    record { reaches = reached; lowest = λ c l. next_lowest failed within c (le-leb pace (byte c) l) }
-
--- a pace up to 120 km/h has such a code
-pub some_reaches : {pace i : ℕ} → Failed (reaches pace) i → 10 ≤ i → pace ≤ 120 → ⊥
-some_reaches {pace} failed l within = let below = leb-false pace 120 (failed_all failed l (Go V120)) in omega arith
+  -- a pace of a moving train has a lowest code not below it, and that is a speed
+  pub lowest_speed : 0 < pace → pace ≤ 120 → (v : Speed) × Lowest pace (Go v)
+  lowest_speed moves most = first (find reaches codes) refl
+    where
+      first : (o : Option Code) → find reaches codes ≡ o → (v : Speed) × Lowest pace (Go v)
+      first None e = absurd (omega (arith, none_reaches e))
+      first (Some Stop) e = absurd (omega (arith, (lowest_found Stop e).reaches))
+      first (Some (Go v)) e = (v, lowest_found (Go v) e)

@@ -1,11 +1,10 @@
 -- The highest pace that the braking promise allows, and the pace of a train that brakes at once. Assumes nothing.
 --     at_pace n p          the numbers n, but at the pace p
 --     down_to E n v r      whether a train that came with v has to be down to r: it has rolled the emergency distance
---     Least test o         o is the lowest code that passes a test, or none where none passes
 --     prompt_pace n        the pace of n, but at the first metre no higher than the code that was heard
 --     Latest E old n       the pace of n is the highest promised one, where it was old before
 --     Prompt E old n       the pace of n is the prompt pace that goes with the highest promised one
-use Rattle.std.specs.Prelude.{◌≡◌, ℕ, ◌≤◌, min, Bool, true, false, cond, not, ◌&&◌, Some, None, Option, ◌==◌, nat_le}
+use Rattle.std.specs.Prelude.{◌≡◌, ℕ, ◌≤◌, min, Bool, cond, not, ◌&&◌, ◌==◌, nat_le}
 use Rattle.codes.specs.declared.speeds.Speed.{Speed}
 use Rattle.codes.specs.declared.speeds.Code.{Code}
 use Rattle.codes.specs.declared.speeds.Code.TheVariants.{Go}
@@ -19,10 +18,6 @@ at_pace n p = record { pace = p; carried = n.carried; heard = n.heard; rolled = 
 -- r is below v, not below the code that was heard, and as many metres were rolled as it takes to brake from v to r
 abbrev pub down_to : Emergencies → Numbers → Speed → Code → Bool
 down_to E n v r = not (lower r n.heard) && (lower r (Go v) && nat_le (E n.gradient v r) n.rolled)
-
-abbrev pub Least : (Code → Bool) → Option Code → Type 0
-Least test None = (c : Code) → test c ≡ false
-Least test (Some least) = (test least ≡ true) × ((c : Code) → test c ≡ true → byte least ≤ byte c)
 
 pub record Latest (E : Emergencies) (old : ℕ) (n : Numbers) : Type 0 where
   pub promised : Promise E old n

@@ -12,7 +12,7 @@ pub struct LateTrain {
     carried: u8,
     heard: Code,
     rolled: u16,
-    ground: Class,
+    gradient: Class,
     ghost slow: { pace ≤ 120 },
     ghost came: { carried ≤ 120 },
     ghost near: { rolled ≤ 4095 },

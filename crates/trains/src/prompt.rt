@@ -45,6 +45,7 @@ impl Train for PromptTrain {
         self.late.hear(book, code, class);
     }
 
+    #[tactic(auto, using(crate::proofs::FirstMetre::rolls_promptly, crate::proofs::FirstMetre::prompt_from_latest))]
     fn roll<B: BrakingBook>(&mut self, book: &B, class: Class)
         ensures rolls { Rolls (B.BrakingBook.emergencies book.now) class (prompt self.old) (prompt self.new) }
         ensures pace { Prompt (B.BrakingBook.emergencies book.now) (prompt self.old).pace (prompt self.new) }

@@ -1,7 +1,9 @@
 // The late train is made, hears and rolls: its pace is the highest that the braking promise allows.
 ghost use Rattle.std.specs.Prelude.{◌≡◌, ◌≤◌};
+ghost use Rattle.std.specs.List.{find};
+ghost use Rattle.codes.specs.Speeds.{codes};
 ghost use Rattle.trains.specs.Braking.{Hears, Rolls};
-ghost use Rattle.trains.specs.Latest.{at_pace, down_to, prompt_pace, Least, Latest};
+ghost use Rattle.trains.specs.Latest.{at_pace, down_to, prompt_pace, Latest};
 ghost use Rattle.trains.specs.Start.{Started};
 ghost use Rattle.trains.specs.Late.{late, late_ranged};
 
@@ -25,7 +27,7 @@ impl LateTrain {
             carried: pace,
             heard: Code::Stop,
             rolled: 0,
-            ground: Class::UNDRAWN,
+            gradient: Class::UNDRAWN,
         })
     }
 
@@ -34,25 +36,20 @@ impl LateTrain {
     fn is_due_at<B: BrakingBook>(&self, book: &B, from: Speed, to: Code) -> bool
         ensures { result ≡ down_to (B.BrakingBook.emergencies book.now) (late self.now) from to }
     {
-        if to.is_below(self.heard) {
-            return false;
-        }
-        match book.emergency(self.ground, from, to) {
-            Ok(metres) => metres <= self.rolled,
-            Err(_) => false,
-        }
+        to >= self.heard
+            && book
+                .emergency(self.gradient, from, to)
+                .is_ok_and(|metres| metres <= self.rolled)
     }
 
     // The lowest code that the train, which came with a speed, has to be down to; none where there is none.
     fn lowest_due<B: BrakingBook>(&self, book: &B, from: Speed) -> Option<Code>
-        ensures { Least (down_to (B.BrakingBook.emergencies book.now) (late self.now) from) result }
+        ensures { result ≡ find (down_to (B.BrakingBook.emergencies book.now) (late self.now) from) codes }
     {
-        for to in Code::ALL {
-            if self.is_due_at(book, from, to) {
-                return Some(to);
-            }
-        }
-        None
+        Code::ALL
+            .iter()
+            .copied()
+            .find(|&to| self.is_due_at(book, from, to))
     }
 
     // The highest pace in km/h that is promised where the train's own pace is the one before.
@@ -61,13 +58,11 @@ impl LateTrain {
         ensures within { result ≤ 120 }
     {
         let most = self.pace.max(self.heard.byte());
-        let Code::Go(from) = lowest_code(self.carried) else {
+        let Some(Code::Go(from)) = lowest_code(self.carried) else {
             return most;
         };
-        match self.lowest_due(book, from) {
-            Some(code) => most.min(code.byte()),
-            None => most,
-        }
+        self.lowest_due(book, from)
+            .map_or(most, |code| most.min(code.byte()))
     }
 
     // At the first metre since the train heard its code, lowers a pace above that code to it.
@@ -98,7 +93,7 @@ impl Train for LateTrain {
         self.carried = self.pace;
         self.heard = code;
         self.rolled = 0;
-        self.ground = class;
+        self.gradient = class;
         self.pace = self.latest_pace(book);
     }
 
@@ -107,7 +102,7 @@ impl Train for LateTrain {
         ensures latest { Latest (B.BrakingBook.emergencies book.now) self.old.pace (late self.new) }
     {
         self.rolled = (self.rolled + 1).min(4095);
-        self.ground = self.ground.worse(class);
+        self.gradient = self.gradient.worse(class);
         self.pace = self.latest_pace(book);
     }
 }

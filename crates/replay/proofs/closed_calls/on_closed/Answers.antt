@@ -1,4 +1,4 @@
-use Rattle.std.proofs.Common.{◌≡◌, ◌-◌, [], length, drop, vec_items, vec_len, refl, ap, arith}
+use Rattle.std.proofs.Common.{◌≡◌, [], length, drop, vec_items, vec_len, refl, ap, arith}
 use Rattle.std.proofs.lemmas.List.{take_at}
 use Rattle.codes.specs.Refusals.{notice}
 use Rattle.runs.specs.Orders.{worked, unworked}
@@ -45,7 +45,7 @@ returns-in-Ok-submit g c =
     let book = c.args.book.now in
     let tables = five_tables c.args.intervals.now c.args.gradients.now c.args.restrictions.now c.args.marks.now c.args.row_table.now in
     let done = submits book (g.B.BrakingBook.emergencies book) (g.B.BrakingBook.services book) (lent_of c.args.call.lent) tables c.args.sheet
-    c.in-Submit.mark c.in-Submit.approach (vec_items c.in-Submit.row) (tables_of c.lent_parts-lent.result []) c.as_slice.result.now (c.min-room.result - 0)
+    c.in-Submit.mark c.in-Submit.approach (vec_items c.in-Submit.row) (tables_of c.lent_parts-lent.result []) c.as_slice.result.now c.min-room.result
     (c.lent_parts-lent.ensures c.args.row_table.now) c.as_slice.ensures.value (omega arith) c.in-Ok-submit.passed c.submit.new.row_table c.in-Ok-submit.ensures in
     record {
       made = acted g.T.Train.numbers c.args.call (Submit c.in-Submit.mark c.in-Submit.approach c.in-Submit.row) c.in-Submit.is refl done.0;
@@ -59,7 +59,7 @@ returns-in-Err-submit g c =
     record {
       made = acted g.T.Train.numbers c.args.call (Submit c.in-Submit.mark c.in-Submit.approach c.in-Submit.row) c.in-Submit.is refl
           (submits_not book (g.B.BrakingBook.emergencies book) (g.B.BrakingBook.services book) (lent_of c.args.call.lent) tables c.args.sheet
-          c.in-Submit.mark c.in-Submit.approach (vec_items c.in-Submit.row) (tables_of c.lent_parts-lent.result []) c.as_slice.result.now (c.min-room.result - 0)
+          c.in-Submit.mark c.in-Submit.approach (vec_items c.in-Submit.row) (tables_of c.lent_parts-lent.result []) c.as_slice.result.now c.min-room.result
           (c.lent_parts-lent.ensures c.args.row_table.now) c.as_slice.ensures.value (omega arith) c.in-Err-submit.refused c.submit.new.row_table c.in-Err-submit.ensures);
       by = tt;
     }

@@ -34,9 +34,9 @@ loop-call-preserved g c =
       tt,
       append_assoc c.loop-call.yielded _ _ ∙ ap (λ xs. c.loop-call.yielded ++ xs) (sym one) ∙ inv.2,
       omega arith,
-      c.perform-made.ensures.by,
-      sofar_more c.loop-call.yielded (vec_items c.loop-call.answers) (vec_items c.push_reserved.new.self) c.in-Some.call c.perform-made.result.answer
-          inv.5 c.perform-made.ensures.made c.push_reserved.ensures.items,
+      c.perform-after.ensures.by,
+      sofar_more c.loop-call.yielded (vec_items c.loop-call.answers) (vec_items c.push_reserved.new.self) c.in-Some.call c.perform-after.result.1
+          inv.5 c.perform-after.ensures.made c.push_reserved.ensures.items,
     )
 
 pub push_reserved-requires : goal.push_reserved-requires
