@@ -5,7 +5,7 @@
 
 mod sheets;
 
-use anyhow::anyhow;
+use anyhow::Context;
 use books::PublishedBook;
 use rows::work_out;
 use sheets::Plan;
@@ -32,9 +32,7 @@ fn tell_plan(rt: &HostRuntime, plan: Plan, times: Option<u32>) -> anyhow::Result
     let name = plan.name;
     let sheet = plan.sheet(rt.alloc())?;
     let count = times.unwrap_or(1);
-    let Some(micros) = timed(rt, &sheet, count)? else {
-        return Err(anyhow!("no row"));
-    };
+    let micros = timed(rt, &sheet, count)?.context("no row")?;
     print!(rt; "{name}: worked out")?;
     if times.is_some() {
         let rate = count as u128 * 1_000_000 / micros.max(1);
@@ -46,18 +44,16 @@ fn tell_plan(rt: &HostRuntime, plan: Plan, times: Option<u32>) -> anyhow::Result
 
 // The number of times that is given as the first word, if any.
 fn given_times(rt: &HostRuntime) -> anyhow::Result<Option<u32>> {
-    let mut words = env::args(rt)?;
-    let _ = words.next();
-    match words.next() {
+    match env::args(rt)?.nth(1) {
         None => Ok(None),
-        Some(word) => Ok(Some(word.as_str().parse::<u32>()?)),
+        Some(word) => Ok(Some(word.as_str().parse()?)),
     }
 }
 
 fn run(rt: &HostRuntime) -> anyhow::Result<()> {
     let times = given_times(rt)?;
-    tell_plan(rt, Plan::fullest(), times)?;
-    tell_plan(rt, Plan::usual(), times)
+    tell_plan(rt, Plan::FULLEST, times)?;
+    tell_plan(rt, Plan::USUAL, times)
 }
 
 fn main(rt: HostRuntime) -> anyhow::Result<()> {
