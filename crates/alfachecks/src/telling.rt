@@ -26,25 +26,21 @@ fn tell_work(rt: &HostRuntime, line: &Line<'_>, case: WorkCase) -> anyhow::Resul
     match answer {
         Ok((letter, place)) => {
             let verdict = Verdict(examine(line, mark, approach, row, &PublishedBook));
-            println!(rt;
-                "{}",
-                Worked {
-                    letter,
-                    place,
-                    row,
-                    verdict
-                }
-            )?;
+            let worked = Worked {
+                letter,
+                place,
+                row,
+                verdict,
+            };
+            println!(rt; "{worked}")?;
         }
         Err(failure) => {
             let is_unchanged = row.iter().all(|byte| *byte == BLANK);
-            println!(rt;
-                "{}",
-                Unworked {
-                    failure,
-                    is_unchanged
-                }
-            )?;
+            let unworked = Unworked {
+                failure,
+                is_unchanged,
+            };
+            println!(rt; "{unworked}")?;
         }
     }
     Ok(())
@@ -78,10 +74,8 @@ fn tell_examine_case(rt: &HostRuntime, line: &Line<'_>, case: ExamineCase) -> an
         row,
     } = case;
     let verdict = Verdict(examine(line, mark, approach, row, &PublishedBook));
-    println!(rt;
-        "mark {mark}, approach {approach}, row{}:{verdict}",
-        Codes(row)
-    )?;
+    let codes = Codes(row);
+    println!(rt; "mark {mark}, approach {approach}, row{codes}:{verdict}")?;
     Ok(())
 }
 
@@ -90,6 +84,7 @@ fn tell_table(rt: &HostRuntime) -> anyhow::Result<()> {
     let table = examples();
     let lines = table.len();
     let mut answered: usize = 0;
+    // Each answer can fail for want of memory, so a chain would be no plainer than this loop.
     for example in table {
         if is_answered(rt.alloc(), example)? {
             answered = answered.saturating_add(1);

@@ -65,11 +65,8 @@ impl fmt::Display for Verdict {
 impl fmt::Display for Worked<'_> {
     fn fmt<W: fmt::Write>(&self, f: &mut fmt::Formatter<W>) -> fmt::Result {
         let codes = Codes(self.row);
-        write!(
-            f,
-            "{codes}, {:?}, place {}, examined:{}",
-            self.letter, self.place, self.verdict
-        )
+        write!(f, "{codes}, {:?}, place {}", self.letter, self.place)?;
+        write!(f, ", examined:{}", self.verdict)
     }
 }
 
@@ -79,14 +76,11 @@ impl fmt::Display for Unworked {
             Failure::Refused(refusal) => write!(f, "{}", Refused(refusal))?,
             Failure::Memory => write!(f, " no memory")?,
         }
-        write!(
-            f,
-            ", bytes {}",
-            if self.is_unchanged {
-                "unchanged"
-            } else {
-                "changed"
-            }
-        )
+        let text = if self.is_unchanged {
+            "unchanged"
+        } else {
+            "changed"
+        };
+        write!(f, ", bytes {text}")
     }
 }

@@ -11,38 +11,26 @@ use trials::{Draws, drawn_sheet};
 // What stands in a row before it is worked out.
 const BLANK: u8 = 7;
 
-// The rows of a sheet, tried one after the other; each begins with the code of the approach.
+// The rows of a sheet at an approach code, tried one after the other.
 #[derive(Drop)]
 struct Trial {
+    approach: Speed,
     row: Vec<Code>,
-    // the row's codes as bytes
-    bytes: Vec<u8>,
     // the highest code of each interval in any lawful row, if there is one
     best: Option<Vec<Code>>,
 }
 
-// How many rows have so many codes behind the approach.
+// How many rows have so many codes.
 fn row_count(codes: usize) -> usize {
     (0..codes).fold(1, |count: usize, _| count.saturating_mul(10))
 }
 
 impl Trial {
-    // A trial of rows with so many codes behind that of the approach.
-    fn new(heap: Global, approach: Speed, held: usize) -> anyhow::Result<Trial> {
-        let size = held.saturating_add(1);
-        Ok(Trial {
-            row: vec![in heap; Code::Go(approach); size]?,
-            bytes: vec![in heap; approach.kmh(); size]?,
-            best: None,
-        })
-    }
-
-    // Takes the row with a number, whose digits are the ranks of its codes behind the approach.
+    // Takes the row with a number, whose digits are the ranks of its codes.
     fn take_row(&mut self, number: usize) {
         let mut rest = number;
-        for (code, byte) in self.row.iter_mut().zip(self.bytes.iter_mut()).skip(1) {
+        for code in &mut self.row {
             *code = Code::ALL[rest % 10];
-            *byte = code.byte();
             rest /= 10;
         }
     }
@@ -61,25 +49,22 @@ impl Trial {
     }
 }
 
-// The library's verdict on a row, whose first byte is the approach.
-fn examined<B: BrakingBook>(line: &Line<'_>, book: &B, bytes: &[u8]) -> Result<(), Refusal> {
-    let (approach, row) = bytes.split_first().ok_or(Refusal::Size)?;
-    examine(line, 1, *approach, row, book)
-}
-
 // Tries one row, and whether the library's verdict is the same.
 fn is_same<B: BrakingBook>(
+    heap: Global,
     line: &Line<'_>,
     verdicts: &Verdicts<'_, B>,
     trial: &mut Trial,
     tally: &mut Tally,
 ) -> anyhow::Result<bool> {
-    let due = verdicts.verdict(trial.row.as_slice());
+    let approach = trial.approach;
+    let due = verdicts.verdict(approach, trial.row.as_slice());
     tally.count_row(due.err().map(|broken| broken.rule));
     if due.is_ok() {
         trial.raise()?;
     }
-    let answer = examined(line, verdicts.scene.book, trial.bytes.as_slice());
+    let row: Vec<u8> = trial.row.iter().map(|code| code.byte()).collect(heap)?;
+    let answer = examine(line, 1, approach.kmh(), row.as_slice(), verdicts.scene.book);
     Ok(answer == due.map_err(Refusal::from))
 }
 
@@ -103,10 +88,7 @@ fn is_worked_out<B: BrakingBook>(
     );
     Ok(match (answer, best) {
         (Ok(found), Some(best)) => found == (verdicts.letter, verdicts.first)
-            && row
-                .iter()
-                .copied()
-                .eq(best.iter().skip(1).map(|code| code.byte())),
+            && row.iter().copied().eq(best.iter().map(|code| code.byte())),
         (Err(Failure::Refused(Refusal::NoRow)), None) => row.iter().all(|byte| *byte == BLANK),
         _ => false,
     })
@@ -120,15 +102,19 @@ fn compare_rows<B: BrakingBook>(
     tally: &mut Tally,
 ) -> anyhow::Result<()> {
     let line = verdicts.scene.sheet.line();
-    let mut trial = Trial::new(heap, approach, verdicts.held)?;
+    let mut trial = Trial {
+        approach,
+        row: vec![in heap; Code::Stop; verdicts.held]?,
+        best: None,
+    };
     for number in 0..row_count(verdicts.held) {
         trial.take_row(number);
-        let is_same = is_same(&line, verdicts, &mut trial, tally)?;
+        let is_same = is_same(heap, &line, verdicts, &mut trial, tally)?;
         tally.count_answer(is_same);
     }
     let best = trial.best.as_deref();
     tally.count_highest(best.map(|_| verdicts.letter));
-    let is_lawful = best.map_or(true, |best| verdicts.verdict(best).is_ok());
+    let is_lawful = best.map_or(true, |best| verdicts.verdict(approach, best).is_ok());
     let is_worked_out = is_worked_out(heap, verdicts, approach, best)?;
     tally.count_answer(is_worked_out && is_lawful);
     Ok(())

@@ -1,9 +1,10 @@
 // What the rules say of each code of a scene, and of rows.
 use super::plain::Scene;
 use books::BrakingBook;
-use codes::{Code, Refusal};
+use codes::{Code, Refusal, Speed};
 use rows::StopLetter;
 use std::alloc::Global;
+use std::iter::once;
 use trials::Sheet;
 
 // A broken rule by its number, and the interval that breaks it.
@@ -82,15 +83,17 @@ impl<'a, B: BrakingBook> Verdicts<'a, B> {
         by_next.get(rank(next)).copied().flatten()
     }
 
-    // The verdict on a row, which begins with the code of the approach: its first break, if any.
-    pub fn verdict(&self, row: &[Code]) -> Result<(), Break> {
-        row.iter().enumerate().try_for_each(|(interval, code)| {
-            let behind = interval.saturating_add(1);
-            let next = row.get(behind).copied().unwrap_or(Code::Stop);
-            match self.rule(interval, *code, next) {
-                None => Ok(()),
-                Some(rule) => Err(Break { interval, rule }),
-            }
-        })
+    // The verdict on a row at an approach code: its first break, if any.
+    pub fn verdict(&self, approach: Speed, row: &[Code]) -> Result<(), Break> {
+        once(Code::Go(approach))
+            .chain(row.iter().copied())
+            .enumerate()
+            .try_for_each(|(interval, code)| {
+                let next = row.get(interval).copied().unwrap_or(Code::Stop);
+                match self.rule(interval, code, next) {
+                    None => Ok(()),
+                    Some(rule) => Err(Break { interval, rule }),
+                }
+            })
     }
 }
