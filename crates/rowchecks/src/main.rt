@@ -11,17 +11,22 @@ mod tallies;
 mod verdicts;
 
 use anyhow::anyhow;
-use books::{FileBook, PublishedBook};
+use books::{BrakingBook, FileBook, PublishedBook};
 use comparing::compare_sheets;
 use recipes::{Recipe, recipes};
 
 // How many sheets are drawn for each book.
 const SHEETS: u32 = 1_000;
 
-// Compares by the published book.
-fn compare_published(rt: &HostRuntime) -> anyhow::Result<()> {
-    let tally = compare_sheets(rt.alloc(), &PublishedBook, 700, SHEETS)?;
-    println!(rt; "book published: {tally}")?;
+// Compares by a book, on sheets of intervals of at most `scale` metres, and tells what came of it.
+fn compare<B: BrakingBook>(
+    rt: &HostRuntime,
+    name: &str,
+    book: &B,
+    scale: u32,
+) -> anyhow::Result<()> {
+    let tally = compare_sheets(rt.alloc(), book, scale, SHEETS)?;
+    println!(rt; "book {name}: {tally}")?;
     Ok(())
 }
 
@@ -31,13 +36,11 @@ fn compare_recipe(rt: &HostRuntime, recipe: &Recipe) -> anyhow::Result<()> {
     let mut book = FileBook::new();
     book.lay_over(table.as_slice())
         .map_err(|_| anyhow!("the recipe makes no book"))?;
-    let tally = compare_sheets(rt.alloc(), &book, recipe.scale, SHEETS)?;
-    println!(rt; "book {}: {tally}", recipe.name)?;
-    Ok(())
+    compare(rt, recipe.name, &book, recipe.scale)
 }
 
 fn run(rt: &HostRuntime) -> anyhow::Result<()> {
-    compare_published(rt)?;
+    compare(rt, "published", &PublishedBook, 700)?;
     for recipe in recipes() {
         compare_recipe(rt, recipe)?;
     }
