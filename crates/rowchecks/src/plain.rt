@@ -1,6 +1,6 @@
 // The five rules, each as it is worded. Interval 0 is the approach.
 use super::metres::{class_over, painted};
-use anyhow::anyhow;
+use anyhow::Context;
 use books::BrakingBook;
 use codes::{Class, Code, Speed};
 use rows::StopLetter;
@@ -23,9 +23,11 @@ pub struct Scene<'a, B> {
 impl<'a, B: BrakingBook> Scene<'a, B> {
     // The scene of a sheet before its first mark.
     pub fn new(heap: Global, sheet: Sheet, book: &'a B) -> anyhow::Result<Scene<'a, B>> {
-        let Some(mark) = sheet.marks.first().copied() else {
-            return Err(anyhow!("a sheet without a mark"));
-        };
+        let mark = sheet
+            .marks
+            .first()
+            .copied()
+            .context("a sheet without a mark")?;
         Ok(Scene {
             classes: painted(heap, sheet.gradients.as_slice())?,
             mark,
@@ -34,16 +36,11 @@ impl<'a, B: BrakingBook> Scene<'a, B> {
         })
     }
 
-    // Where interval j ends.
-    fn end_of(&self, j: usize) -> u32 {
-        self.sheet.end_of(j)
-    }
-
     // Where interval j begins; the approach is the one metre before the start.
     fn begin_of(&self, j: usize) -> u32 {
         match j.checked_sub(1) {
             None => self.sheet.start.saturating_sub(1),
-            Some(before) => self.end_of(before),
+            Some(before) => self.sheet.end_of(before),
         }
     }
 
@@ -51,12 +48,12 @@ impl<'a, B: BrakingBook> Scene<'a, B> {
     pub fn held_in(&self) -> Option<usize> {
         let position = self.mark.position;
         (1..=self.sheet.intervals.len()).find(|j| self.begin_of(*j) < position
-            && position <= self.end_of(*j))
+            && position <= self.sheet.end_of(*j))
     }
 
     // The class that counts from interval j to a position: from a train's length before its end.
     fn class_towards(&self, j: usize, to: u32) -> Class {
-        let from = self.end_of(j).saturating_sub(TRAIN);
+        let from = self.sheet.end_of(j).saturating_sub(TRAIN);
         class_over(self.classes.as_slice(), from, to)
     }
 
@@ -65,7 +62,7 @@ impl<'a, B: BrakingBook> Scene<'a, B> {
     fn is_down(&self, j: usize, code: Code, to: Code, position: u32) -> bool {
         match code {
             Code::Go(speed) if code > to => {
-                let room = position.saturating_sub(self.end_of(j));
+                let room = position.saturating_sub(self.sheet.end_of(j));
                 self.book
                     .emergency(self.class_towards(j, position), speed, to)
                     .map_or(true, |metres| metres as u32 <= room)
@@ -77,7 +74,7 @@ impl<'a, B: BrakingBook> Scene<'a, B> {
     // Rule 1: no faster than a restriction that touches the interval.
     fn obeys_1(&self, j: usize, code: Code) -> bool {
         let begin = self.begin_of(j);
-        let end = self.end_of(j);
+        let end = self.sheet.end_of(j);
         self.sheet
             .restrictions
             .iter()
@@ -88,7 +85,7 @@ impl<'a, B: BrakingBook> Scene<'a, B> {
 
     // Rule 2: slow enough, or able to become so by emergency braking, before a restriction ahead.
     fn obeys_2(&self, j: usize, code: Code) -> bool {
-        let end = self.end_of(j);
+        let end = self.sheet.end_of(j);
         self.sheet
             .restrictions
             .iter()
@@ -102,7 +99,7 @@ impl<'a, B: BrakingBook> Scene<'a, B> {
             return true;
         };
         let position = self.mark.position;
-        let room = position.saturating_sub(self.end_of(j));
+        let room = position.saturating_sub(self.sheet.end_of(j));
         self.book.service(self.class_towards(j, position), speed) as u32 <= room
     }
 
@@ -113,7 +110,7 @@ impl<'a, B: BrakingBook> Scene<'a, B> {
 
     // Rule 5, where interval j + 1 lies before the stop ground: no faster than its code, or able to become so within it.
     pub fn obeys_5(&self, j: usize, code: Code, next: Code) -> bool {
-        self.is_down(j, code, next, self.end_of(j.saturating_add(1)))
+        self.is_down(j, code, next, self.sheet.end_of(j.saturating_add(1)))
     }
 
     // The first of the rules 1 to 4 that a code breaks, if any.

@@ -55,13 +55,11 @@ impl Recipe {
     // The figures of a class in writing order: emergency by from and to, then service by from.
     fn put_class(&self, table: &mut Vec<u16>, class: Class) -> anyhow::Result<()> {
         for from in Code::ALL {
-            for to in Code::ALL.into_iter().take_while(|to| *to < from) {
-                table.push(self.emergency.metres(class, from, to))?;
-            }
+            let lower = Code::ALL.into_iter().take_while(|to| *to < from);
+            table.extend(lower.map(|to| self.emergency.metres(class, from, to)))?;
         }
-        for from in Speed::ALL {
-            table.push(self.service.metres(class, Code::Go(from), Code::Stop))?;
-        }
+        let speeds = Speed::ALL.into_iter().map(Code::Go);
+        table.extend(speeds.map(|from| self.service.metres(class, from, Code::Stop)))?;
         Ok(())
     }
 

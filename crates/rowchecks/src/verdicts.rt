@@ -63,10 +63,7 @@ impl<'a, B: BrakingBook> Verdicts<'a, B> {
         let held = scene.held_in().unwrap_or(0);
         let first = scene.first_of_ground(held);
         let letter = scene.letter(first);
-        let mut broken = Vec::new(heap);
-        for j in 0..=held {
-            broken.push(tried(&scene, first, j))?;
-        }
+        let broken = (0..=held).map(|j| tried(&scene, first, j)).collect(heap)?;
         Ok(Verdicts {
             scene,
             held,

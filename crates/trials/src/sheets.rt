@@ -38,10 +38,10 @@ impl Sheet {
     pub fn end_of(&self, n: usize) -> u32
         ensures { result ≡ end_after self.now.start self.now.intervals.items n }
     {
-        self.intervals
-            .iter()
-            .take(n)
-            .fold(self.start, |end, interval| end.saturating_add(interval.length))
+        self.intervals.iter().take(n).fold(
+            self.start,
+            |end, interval| end.saturating_add(interval.length),
+        )
     }
 
     // The sheet as the library takes it.
