@@ -2,7 +2,7 @@
 use Rattle.std.proofs.Common.{◌≡◌, ℕ, ◌-◌, Bool, true, false, cond, ltb, List, [], ◌∷◌, map, length, get_or, ℤ, pos, ◌≤ℤ◌, Some, None, Decides, fold, Option, sym, refl, subst, true≢false, arith, ltb-false, ltb-true}
 use mathlib.Core.Path.{fun_ext}
 use lib.Signed.{le_z}
-use Rattle.std.specs.List.{AllByRecursion}
+use Rattle.std.specs.List.{AllByRecursion, find}
 use Rattle.std.proofs.lemmas.Int.{ints}
 use Rattle.codes.specs.declared.speeds.Speed.{Speed}
 use Rattle.codes.specs.declared.speeds.Code.{Code}
@@ -31,7 +31,7 @@ use Rattle.alfa.specs.declared.table.Example.TheVariants.{Highest, NoRow, Passes
 use Rattle.alfa.specs.Sheets.{track_for, mark_for}
 use Rattle.alfa.specs.Examples.{Holds}
 use Rattle.alfa.specs.Table.{table}
-use Rattle.alfa.proofs.Searches.{first_of, FirstPassing, first_class}
+use Rattle.alfa.proofs.Searches.{FirstPassing, first_class}
 use Rattle.alfa.proofs.Tests.{decides_allows}
 use Rattle.alfa.proofs.Solving.{ground_begin, highest_row, by_changes, work, four, verdict, judge, class_told, classify, solve}
 use Rattle.alfa.proofs.Rows.{Judged, begins_ground, row_found, row_judged}
@@ -98,7 +98,7 @@ module _ (f : ℤ) where
       let reaches : edge k ≤ℤ f = grind (arith, ints) in
       ((omega (arith, ints), high), record { reaches = reaches; flatter = λ j l. let above = flatter j l in grind (arith, ints) })
 
-  within_or_not : (b : Bool) → le_z f (pos 350) ≡ b → Holds (cond b (class_told f (first_of (λ k. le_z (edge k) f) classes)) (NoFaldtal f))
+  within_or_not : (b : Bool) → le_z f (pos 350) ≡ b → Holds (cond b (class_told f (find (λ k. le_z (edge k) f) classes)) (NoFaldtal f))
   within_or_not true e = class_by (grind (arith, ints)) _ (first_class (λ k. le_z (edge k) f))
   within_or_not false e = λ faldtal. let high = faldtal.1 in grind (arith, ints)
 

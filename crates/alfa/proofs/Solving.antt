@@ -1,6 +1,7 @@
 -- The answers to the questions of the table, worked out. Assumes nothing.
 use Rattle.std.proofs.Common.{ℕ, zero, suc, ◌-◌, Bool, true, false, cond, not, ◌&&◌, eqb, ltb, List, [], ◌∷◌, get_or, ℤ, pos, Some, None, fold, Option}
 use lib.Signed.{le_z}
+use Rattle.std.specs.List.{find}
 use Rattle.codes.specs.declared.speeds.Speed.{Speed}
 use Rattle.codes.specs.declared.speeds.Code.{Code}
 use Rattle.codes.specs.declared.speeds.Code.TheVariants.{Stop, Go}
@@ -19,7 +20,7 @@ use Rattle.alfa.specs.declared.sheets.Variant.{Variant}
 use Rattle.alfa.specs.declared.table.Example.{Example}
 use Rattle.alfa.specs.declared.table.Example.TheVariants.{Highest, NoRow, Passes, Breaks, OfClass, NoFaldtal}
 use Rattle.alfa.specs.Sheets.{track_for, mark_for}
-use Rattle.alfa.proofs.Searches.{first_of, falling}
+use Rattle.alfa.proofs.Searches.{falling}
 use Rattle.alfa.proofs.Tests.{obeys, allows, fits}
 
 abbrev pub code_from : Option Speed → Code
@@ -37,7 +38,7 @@ looked_at j (Some rule) behind = Some (j, rule)
 
 module _ (class : ℕ → ℕ → Class) (track : Track) (mark : Mark) (E : Emergencies) (D : Services) where
   abbrev pub stops : ℕ → Bool
-  stops j = no_speed (first_of (λ v. fits class track mark E D j (Go v)) falling)
+  stops j = no_speed (find (λ v. fits class track mark E D j (Go v)) falling)
 
   -- where the stop ground begins, with the intervals up to the j-th still to be looked at
   abbrev pub ground_back : ℕ → ℕ → ℕ
@@ -50,7 +51,7 @@ module _ (class : ℕ → ℕ → Class) (track : Track) (mark : Mark) (E : Emer
   module _ (first : ℕ) where
     -- the highest code of interval j before one with code w
     abbrev pub highest_code : ℕ → Code → Code
-    highest_code j w = code_from (first_of (λ v. allows class track mark E D first j (Go v) w) falling)
+    highest_code j w = code_from (find (λ v. allows class track mark E D first j (Go v) w) falling)
 
     -- the row, with the codes of the intervals up to the n-th still to be found
     abbrev pub row_back : ℕ → List Code → List Code
@@ -68,7 +69,7 @@ module _ (class : ℕ → ℕ → Class) (track : Track) (mark : Mark) (E : Emer
       -- the first break of the n intervals from the j-th on
       abbrev pub break_from : ℕ → ℕ → Option (ℕ × Rule)
       break_from j zero = None
-      break_from j (suc n) = looked_at j (first_of (fails j) rules) (break_from (suc j) n)
+      break_from j (suc n) = looked_at j (find (fails j) rules) (break_from (suc j) n)
 
       abbrev pub first_break : Option (ℕ × Rule)
       first_break = break_from 0 (suc mark.interval)
@@ -110,7 +111,7 @@ class_told f None = NoFaldtal f
 class_told f (Some k) = OfClass f k
 
 abbrev pub classify : ℤ → Example
-classify f = cond (le_z f (pos 350)) (class_told f (first_of (λ k. le_z (edge k) f) classes)) (NoFaldtal f)
+classify f = cond (le_z f (pos 350)) (class_told f (find (λ k. le_z (edge k) f) classes)) (NoFaldtal f)
 
 -- the line with the same question, and the answer worked out
 abbrev pub solve : (List (Entry Class) → ℕ → ℕ → Class) → Example → Example

@@ -1,6 +1,6 @@
 -- Tests that compute the rules, each with the rule that it decides. Assumes nothing.
-use Rattle.std.proofs.Common.{ℕ, suc, ◌+◌, ◌-◌, ◌≤◌, Bool, true, false, ◌&&◌, ◌||◌, ltb, leb, List, [], ◌∷◌, Decides, sym, refl, true≢false, arith, le-leb, leb-true}
-use Rattle.std.specs.List.{AllByRecursion}
+use Rattle.std.proofs.Common.{ℕ, suc, ◌+◌, ◌-◌, ◌≤◌, Bool, true, false, ◌&&◌, ◌||◌, ltb, leb, List, Decides, sym, refl, true≢false, arith, le-leb, leb-true}
+use Rattle.std.specs.List.{AllByRecursion, list_all}
 use Rattle.std.proofs.lemmas.Bool.Decides.{Decides-like, Decides-and, Decides-or, Decides-ltb}
 use Rattle.std.proofs.ByRecursion.{Decides-by_and}
 use Rattle.codes.specs.declared.speeds.Speed.{Speed}
@@ -27,12 +27,8 @@ decides_implies false b d k = (λ e p. absurd (true≢false (sym (d.1 p))), λ f
 decides_leb : (m n : ℕ) → Decides (leb m n) (m ≤ n)
 decides_leb m n = (leb-true m n, le-leb m n)
 
-abbrev pub every : {X : Type 0} → (X → Bool) → List X → Bool
-every test [] = true
-every test (x ∷ xs) = test x && every test xs
-
-decides_every : {X : Type 0} (test : X → Bool) (P : X → Type 0) → ((x : X) → Decides (test x) (P x)) → (xs : List X) → Decides (every test xs) (AllByRecursion P xs)
-decides_every test P each = Decides-by_and test P (every test) each refl (λ x xs. refl)
+decides_every : {X : Type 0} (test : X → Bool) (P : X → Type 0) → ((x : X) → Decides (test x) (P x)) → (xs : List X) → Decides (list_all test xs) (AllByRecursion P xs)
+decides_every test P each = Decides-by_and test P (list_all test) each refl (λ x xs. refl)
 
 -- ---- braking
 
@@ -65,14 +61,14 @@ module _ (class : ℕ → ℕ → Class) (track : Track) (mark : Mark) (E : Emer
 
   -- whether interval j with code c obeys the rule before an interval with code w, where the stop ground begins with the first
   abbrev pub obeys : ℕ → ℕ → Code → Code → Rule → Bool
-  obeys first j c w touching = every (is_touching j c) track.restrictions
-  obeys first j c w ahead = every (is_ahead j c) track.restrictions
+  obeys first j c w touching = list_all (is_touching j c) track.restrictions
+  obeys first j c w ahead = list_all (is_ahead j c) track.restrictions
   obeys first j c w service = is_halted (D (class (end_of track j - train_length) mark.position)) c (mark.position - end_of track j)
   obeys first j c w stopping = is_halted (λ v. E (class (end_of track j - train_length) mark.danger) v Stop) c (mark.danger - end_of track j)
   obeys first j c w next = implies (ltb (suc j) first) (is_down E (class (end_of track j - train_length) (end_of track (suc j))) c w (length_of track (suc j)))
 
   abbrev pub allows : ℕ → ℕ → Code → Code → Bool
-  allows first j c w = every (obeys first j c w) rules
+  allows first j c w = list_all (obeys first j c w) rules
 
   -- rules 1 to 4, which do not ask for the ground nor for the next code
   abbrev pub fits : ℕ → Code → Bool

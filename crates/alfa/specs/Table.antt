@@ -14,13 +14,13 @@ plain = record { danger = 11160; drawn_to = 13000; slow_to = None }
 
 -- the sheet with its danger point, the end of its gradient or the end of a restriction elsewhere
 abbrev danger_at : ℕ → Variant
-danger_at metre = record { danger = metre; drawn_to = 13000; slow_to = None }
+danger_at metre = record plain { danger = metre }
 
 abbrev drawn_to : ℕ → Variant
-drawn_to metre = record { danger = 11160; drawn_to = metre; slow_to = None }
+drawn_to metre = record plain { drawn_to = metre }
 
 abbrev slow_to : ℕ → Variant
-slow_to metre = record { danger = 11160; drawn_to = 13000; slow_to = Some metre }
+slow_to metre = record plain { slow_to = Some metre }
 
 -- a fall, in tenths of a permille
 abbrev faldtal : ℕ → ℤ

@@ -23,42 +23,36 @@ impl Variant {
     // Emergency braking from 50 km/h just fits behind the third interval.
     pub const ROOM_FOR_50: Variant = Variant {
         danger: 11_145,
-        drawn_to: 13_000,
-        slow_to: None,
+        ..Variant::PLAIN
     };
 
     // One metre less.
     pub const NO_ROOM_FOR_50: Variant = Variant {
         danger: 11_144,
-        drawn_to: 13_000,
-        slow_to: None,
+        ..Variant::PLAIN
     };
 
     // A train has just left the restriction behind where the second interval begins.
     pub const SLOW: Variant = Variant {
-        danger: 11_160,
-        drawn_to: 13_000,
         slow_to: Some(10_250),
+        ..Variant::PLAIN
     };
 
     // One metre more.
     pub const SLOW_LONGER: Variant = Variant {
-        danger: 11_160,
-        drawn_to: 13_000,
         slow_to: Some(10_251),
+        ..Variant::PLAIN
     };
 
     // The gradient is drawn up to the danger point.
     pub const DRAWN_ENOUGH: Variant = Variant {
-        danger: 11_160,
         drawn_to: 11_160,
-        slow_to: None,
+        ..Variant::PLAIN
     };
 
     // One metre less.
     pub const DRAWN_SHORT: Variant = Variant {
-        danger: 11_160,
         drawn_to: 11_159,
-        slow_to: None,
+        ..Variant::PLAIN
     };
 }

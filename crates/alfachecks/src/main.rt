@@ -2,9 +2,11 @@
 
 #![tactic(auto)]
 
-mod alfa;
+mod cases;
 mod sheets;
+mod tabled;
 mod telling;
+mod texts;
 
 use telling::tell_alfa;
 

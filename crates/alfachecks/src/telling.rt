@@ -1,122 +1,96 @@
-// The sheet Alfa: what the library answers to each case, in words.
-use super::alfa::{ExamineCase, Variant, WorkCase, examine_cases, work_cases};
+// The sheet Alfa: what the library answers to each case, in words, and how many lines of the table it answers.
+use super::cases::{ExamineCase, WorkCase, examine_cases, work_cases};
+use super::sheets::alfa_sheet;
+use super::tabled::is_answered;
+use super::texts::{Codes, Unworked, Verdict, Worked};
+use alfa::{Variant, examples};
 use books::PublishedBook;
-use codes::Refusal;
-use rows::{Failure, StopLetter, examine, work_out};
+use rows::{examine, work_out};
 use rules::Line;
 
 // What stands in a row before it is worked out.
 const BLANK: u8 = 7;
 
-// Whether each byte of a row is blank.
-fn is_blank(row: &[u8]) -> bool {
-    for byte in row {
-        if *byte != BLANK {
-            return false;
-        }
-    }
-    true
-}
-
-// The letter as text.
-fn letter_text(letter: StopLetter) -> &'static str {
-    match letter {
-        StopLetter::Sf => "Sf",
-        StopLetter::Sv => "Sv",
-    }
-}
-
-// Tells the codes of a row.
-fn tell_row(rt: &HostRuntime, row: &[u8]) -> anyhow::Result<()> {
-    for byte in row {
-        if *byte == 0 {
-            print!(rt; " stop")?;
-        } else {
-            print!(rt; " {byte}")?;
-        }
-    }
-    Ok(())
-}
-
-// Tells a refusal.
-fn tell_refusal(rt: &HostRuntime, refusal: Refusal) -> anyhow::Result<()> {
-    let number = refusal.number();
-    print!(rt; " refused by {number}")?;
-    if let Refusal::Unlawful { interval, rule } = refusal {
-        print!(rt; ", interval {interval}, rule {rule}")?;
-    }
-    Ok(())
-}
-
-// Tells the verdict on a row.
-fn tell_verdict(rt: &HostRuntime, verdict: Result<(), Refusal>) -> anyhow::Result<()> {
-    match verdict {
-        Ok(()) => print!(rt; " pass")?,
-        Err(refusal) => tell_refusal(rt, refusal)?,
-    }
-    Ok(())
-}
-
-// Tells why no row was worked out, and whether the bytes are as they were.
-fn tell_failure(rt: &HostRuntime, failure: Failure, row: &[u8]) -> anyhow::Result<()> {
-    match failure {
-        Failure::Refused(refusal) => tell_refusal(rt, refusal)?,
-        Failure::Memory => print!(rt; " no memory")?,
-    }
-    let text = if is_blank(row) {
-        "unchanged"
-    } else {
-        "changed"
-    };
-    print!(rt; ", bytes {text}")?;
-    Ok(())
-}
-
-// Works out one row, and tells it with the verdict on it.
+// Works out one row, and ends its line with what came of it and the verdict on it.
 fn tell_work(rt: &HostRuntime, line: &Line<'_>, case: WorkCase) -> anyhow::Result<()> {
     let heap = rt.alloc();
-    let mut row = vec![in heap; BLANK; case.3]?;
-    match work_out(heap, line, case.1, case.2, &PublishedBook, &mut row) {
+    let WorkCase {
+        mark,
+        approach,
+        size,
+        ..
+    } = case;
+    let mut row = vec![in heap; BLANK; size]?;
+    let answer = work_out(heap, line, mark, approach, &PublishedBook, &mut row);
+    let row = row.as_slice();
+    match answer {
         Ok((letter, place)) => {
-            tell_row(rt, row.as_slice())?;
-            let text = letter_text(letter);
-            print!(rt; ", {text}, place {place}, examined:")?;
-            tell_verdict(
-                rt,
-                examine(line, case.1, case.2, row.as_slice(), &PublishedBook),
-            )
+            let verdict = Verdict(examine(line, mark, approach, row, &PublishedBook));
+            let worked = Worked {
+                letter,
+                place,
+                row,
+                verdict,
+            };
+            println!(rt; "{worked}")?;
         }
-        Err(failure) => tell_failure(rt, failure, row.as_slice()),
+        Err(failure) => {
+            let is_unchanged = row.iter().all(|byte| *byte == BLANK);
+            let unworked = Unworked {
+                failure,
+                is_unchanged,
+            };
+            println!(rt; "{unworked}")?;
+        }
     }
+    Ok(())
 }
 
 // One case of working out, in a line.
 fn tell_work_case(rt: &HostRuntime, case: WorkCase) -> anyhow::Result<()> {
-    let sheet = case.0.sheet(rt.alloc())?;
-    let danger = case.0.danger;
-    let drawn = case.0.drawn_to;
-    let slow = case.0.slow_to;
-    let mark = case.1;
-    let approach = case.2;
-    let size = case.3;
+    let WorkCase {
+        sheet,
+        mark,
+        approach,
+        size,
+    } = case;
+    let Variant {
+        danger,
+        drawn_to,
+        slow_to,
+    } = sheet;
+    let slow_to = slow_to.unwrap_or(0);
     print!(rt;
-        "danger {danger}, drawn to {drawn}, slow to {slow}, mark {mark}, approach {approach}, {size} bytes:"
+        "danger {danger}, drawn to {drawn_to}, slow to {slow_to}, mark {mark}, approach {approach}, {size} bytes:"
     )?;
-    tell_work(rt, &sheet.line(), case)?;
-    println!(rt; "")?;
-    Ok(())
+    tell_work(rt, &alfa_sheet(rt.alloc(), sheet)?.line(), case)
 }
 
 // One case of examining, in a line.
 fn tell_examine_case(rt: &HostRuntime, line: &Line<'_>, case: ExamineCase) -> anyhow::Result<()> {
-    let mark = case.0;
-    let approach = case.1;
-    let row = case.2.get(0..case.3).unwrap_or(b"");
-    print!(rt; "mark {mark}, approach {approach}, row")?;
-    tell_row(rt, row)?;
-    print!(rt; ":")?;
-    tell_verdict(rt, examine(line, mark, approach, row, &PublishedBook))?;
-    println!(rt; "")?;
+    let ExamineCase {
+        mark,
+        approach,
+        row,
+    } = case;
+    let verdict = Verdict(examine(line, mark, approach, row, &PublishedBook));
+    let codes = Codes(row);
+    println!(rt; "mark {mark}, approach {approach}, row{codes}:{verdict}")?;
+    Ok(())
+}
+
+// How many lines the table has, and how many of them the library answers so.
+fn tell_table(rt: &HostRuntime) -> anyhow::Result<()> {
+    let table = examples();
+    let lines = table.len();
+    let mut answered: usize = 0;
+    // Each answer can fail for want of memory, so a chain would be no plainer than this loop.
+    for example in table {
+        if is_answered(rt.alloc(), example)? {
+            answered = answered.saturating_add(1);
+        }
+    }
+    println!(rt; "{lines} lines of the table, {answered} as the library answers")?;
     Ok(())
 }
 
@@ -127,9 +101,10 @@ pub fn tell_alfa(rt: &HostRuntime) -> anyhow::Result<()> {
         tell_work_case(rt, *case)?;
     }
     println!(rt; "Alfa, examining")?;
-    let sheet = Variant::plain().sheet(rt.alloc())?;
+    let sheet = alfa_sheet(rt.alloc(), Variant::PLAIN)?;
     for case in examine_cases() {
         tell_examine_case(rt, &sheet.line(), *case)?;
     }
-    Ok(())
+    println!(rt; "Alfa, what holds by the rules")?;
+    tell_table(rt)
 }

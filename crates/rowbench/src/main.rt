@@ -13,30 +13,25 @@ use std::env;
 use std::time::Instant;
 use trials::Sheet;
 
-// Works out the row of a sheet so many times, and answers how many microseconds that took; none where there is no row.
-fn timed(rt: &HostRuntime, sheet: &Sheet, times: u32) -> anyhow::Result<Option<u128>> {
+// Works out the row of a sheet so many times, and answers how many microseconds that took.
+fn timed(rt: &HostRuntime, sheet: &Sheet, times: u32) -> anyhow::Result<u128> {
     let heap = rt.alloc();
     let line = sheet.line();
     let mut row = vec![in heap; 0u8; line.intervals.len()]?;
     let begun = Instant::now(rt)?;
     for _ in 0..times {
-        if work_out(heap, &line, 1, 30, &PublishedBook, &mut row).is_err() {
-            return Ok(None);
-        }
+        work_out(heap, &line, 1, 30, &PublishedBook, &mut row).map_err(|_| anyhow!("no row"))?;
     }
-    Ok(Some(begun.elapsed(rt)?.as_micros()))
+    Ok(begun.elapsed(rt)?.as_micros())
 }
 
 // Tells how fast the row of a sheet is worked out; no time where no number of times was given.
 fn tell_plan(rt: &HostRuntime, plan: Plan, times: Option<u32>) -> anyhow::Result<()> {
     let name = plan.name;
     let sheet = plan.sheet(rt.alloc())?;
-    let count = times.unwrap_or(1);
-    let Some(micros) = timed(rt, &sheet, count)? else {
-        return Err(anyhow!("no row"));
-    };
+    let micros = timed(rt, &sheet, times.unwrap_or(1))?;
     print!(rt; "{name}: worked out")?;
-    if times.is_some() {
+    if let Some(count) = times {
         let rate = count as u128 * 1_000_000 / micros.max(1);
         print!(rt; " {count} times in {micros} microseconds, {rate} a second")?;
     }
@@ -46,18 +41,14 @@ fn tell_plan(rt: &HostRuntime, plan: Plan, times: Option<u32>) -> anyhow::Result
 
 // The number of times that is given as the first word, if any.
 fn given_times(rt: &HostRuntime) -> anyhow::Result<Option<u32>> {
-    let mut words = env::args(rt)?;
-    let _ = words.next();
-    match words.next() {
-        None => Ok(None),
-        Some(word) => Ok(Some(word.as_str().parse::<u32>()?)),
-    }
+    let word = env::args(rt)?.nth(1);
+    Ok(word.map(|word| word.as_str().parse()).transpose()?)
 }
 
 fn run(rt: &HostRuntime) -> anyhow::Result<()> {
     let times = given_times(rt)?;
-    tell_plan(rt, Plan::fullest(), times)?;
-    tell_plan(rt, Plan::usual(), times)
+    tell_plan(rt, Plan::FULLEST, times)?;
+    tell_plan(rt, Plan::USUAL, times)
 }
 
 fn main(rt: HostRuntime) -> anyhow::Result<()> {

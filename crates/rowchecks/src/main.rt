@@ -4,45 +4,45 @@
 #![tactic(auto)]
 
 mod comparing;
-mod figures;
-mod listed;
 mod metres;
 mod plain;
 mod recipes;
 mod tallies;
-mod telling;
 mod verdicts;
 
 use anyhow::anyhow;
-use books::{FileBook, PublishedBook};
+use books::{BrakingBook, FileBook, PublishedBook};
 use comparing::compare_sheets;
 use recipes::{Recipe, recipes};
-use telling::tell_tally;
 
 // How many sheets are drawn for each book.
 const SHEETS: u32 = 1_000;
 
-// Compares by the published book.
-fn compare_published(rt: &HostRuntime) -> anyhow::Result<()> {
-    let tally = compare_sheets(rt.alloc(), &PublishedBook, 700, SHEETS)?;
-    tell_tally(rt, "published", &tally)
+// Compares by a book, on sheets of intervals of at most `scale` metres, and tells what came of it.
+fn compare<B: BrakingBook>(
+    rt: &HostRuntime,
+    name: &str,
+    book: &B,
+    scale: u32,
+) -> anyhow::Result<()> {
+    let tally = compare_sheets(rt.alloc(), book, scale, SHEETS)?;
+    println!(rt; "book {name}: {tally}")?;
+    Ok(())
 }
 
 // Compares by a book over the figures of a recipe.
-fn compare_recipe(rt: &HostRuntime, recipe: Recipe) -> anyhow::Result<()> {
+fn compare_recipe(rt: &HostRuntime, recipe: &Recipe) -> anyhow::Result<()> {
     let table = recipe.table(rt.alloc())?;
     let mut book = FileBook::new();
-    if book.lay_over(table.as_slice()).is_err() {
-        return Err(anyhow!("the recipe makes no book"));
-    }
-    let tally = compare_sheets(rt.alloc(), &book, recipe.scale, SHEETS)?;
-    tell_tally(rt, recipe.name, &tally)
+    book.lay_over(table.as_slice())
+        .map_err(|_| anyhow!("the recipe makes no book"))?;
+    compare(rt, recipe.name, &book, recipe.scale)
 }
 
 fn run(rt: &HostRuntime) -> anyhow::Result<()> {
-    compare_published(rt)?;
+    compare(rt, "published", &PublishedBook, 700)?;
     for recipe in recipes() {
-        compare_recipe(rt, *recipe)?;
+        compare_recipe(rt, recipe)?;
     }
     Ok(())
 }

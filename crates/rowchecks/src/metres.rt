@@ -7,19 +7,19 @@ use std::alloc::Global;
 const SIZE: usize = 6_000;
 
 // Paints the metres of a gradient that have no steeper class yet.
-fn paint(classes: &mut [u8], gradient: &Entry<Class>) {
-    let class = gradient.value.number();
-    for metre in gradient.from..gradient.to {
-        let place = metre as usize;
-        if place < classes.len() && classes[place] < class {
-            classes[place] = class;
-        }
+fn paint(classes: &mut [Option<Class>], gradient: &Entry<Class>) {
+    let metres = classes
+        .iter_mut()
+        .take(gradient.to as usize)
+        .skip(gradient.from as usize);
+    for class in metres {
+        *class = (*class).max(Some(gradient.value));
     }
 }
 
-// The class of each metre from 0 on; 0 where nothing is drawn.
-pub fn painted(heap: Global, gradients: &[Entry<Class>]) -> anyhow::Result<Vec<u8>> {
-    let mut classes = vec![in heap; 0u8; SIZE]?;
+// The class of each metre from 0 on; none where nothing is drawn.
+pub fn painted(heap: Global, gradients: &[Entry<Class>]) -> anyhow::Result<Vec<Option<Class>>> {
+    let mut classes = vec![in heap; None; SIZE]?;
     for gradient in gradients {
         paint(classes.as_mut_slice(), gradient);
     }
@@ -27,18 +27,18 @@ pub fn painted(heap: Global, gradients: &[Entry<Class>]) -> anyhow::Result<Vec<u
 }
 
 // The class of a metre: 11 where nothing is drawn.
-fn class_at(classes: &[u8], metre: u32) -> u8 {
-    match classes.get(metre as usize).copied() {
-        None | Some(0) => 11,
-        Some(class) => class,
-    }
+fn class_at(classes: &[Option<Class>], metre: u32) -> Class {
+    classes
+        .get(metre as usize)
+        .copied()
+        .flatten()
+        .unwrap_or(Class::C11)
 }
 
 // The steepest class of the metres `from` to `to` - 1; 11 where there are none.
-pub fn class_over(classes: &[u8], from: u32, to: u32) -> u8 {
-    let mut steepest = 0;
-    for metre in from..to {
-        steepest = steepest.max(class_at(classes, metre));
-    }
-    if steepest == 0 { 11 } else { steepest }
+pub fn class_over(classes: &[Option<Class>], from: u32, to: u32) -> Class {
+    (from..to)
+        .map(|metre| class_at(classes, metre))
+        .max()
+        .unwrap_or(Class::C11)
 }

@@ -1,117 +1,96 @@
 // What the rules say of each code of a scene, and of rows.
-use super::figures::asked;
-use super::listed::all_codes;
-use super::metres::painted;
-use super::plain::{Scene, first_of_four, first_of_ground, held_in, is_sf, obeys_5};
-use anyhow::anyhow;
+use super::plain::Scene;
 use books::BrakingBook;
+use codes::{Code, Refusal, Speed};
+use rows::StopLetter;
 use std::alloc::Global;
+use std::iter::once;
 use trials::Sheet;
 
-// A broken rule, and the interval that breaks it; rule 0 is a pass.
+// A broken rule by its number, and the interval that breaks it.
 #[derive(Clone, Copy, PartialEq, Eq)]
-pub struct Verdict {
+pub struct Break {
     pub interval: usize,
     pub rule: u8,
 }
 
-// The codes of a scene, each tried once. Codes go by their rank among the ten, 0 for stop.
-#[derive(Drop)]
-pub struct Verdicts {
-    pub scene: Scene,
-    // the mark's interval, and the first of the stop ground
-    pub held: usize,
-    pub first: usize,
-    // whether the stop letter is Sf
-    pub is_sf: bool,
-    // the first of the rules 1 to 4 that is broken, by interval and code
-    four: Vec<u8>,
-    // whether rule 5 is obeyed, by interval, code and next code
-    five: Vec<bool>,
+impl From<Break> for Refusal {
+    fn from(broken: Break) -> Refusal {
+        Refusal::Unlawful {
+            interval: broken.interval,
+            rule: broken.rule,
+        }
+    }
 }
 
-// The scene of a sheet before its first mark.
-fn scene_of<B: BrakingBook>(heap: Global, sheet: Sheet, book: &B) -> anyhow::Result<Scene> {
-    let Some(mark) = sheet.marks.first().copied() else {
-        return Err(anyhow!("a sheet without a mark"));
-    };
-    Ok(Scene {
-        classes: painted(heap, sheet.gradients.as_slice())?,
-        figures: asked(heap, book)?,
-        position: mark.position,
-        danger: mark.danger,
-        sheet,
+// The codes of a scene, each tried once before each next code.
+#[derive(Drop)]
+pub struct Verdicts<'a, B> {
+    pub scene: Scene<'a, B>,
+    // how many codes a row has behind that of the approach, and the first interval of the stop ground
+    pub held: usize,
+    pub first: usize,
+    pub letter: StopLetter,
+    // the first rule that is broken, if any, by interval, code and next code
+    broken: Vec<[[Option<u8>; 10]; 10]>,
+}
+
+// The first rule that each code breaks in interval j, if any, by code and next code; the stop ground begins with interval `first`.
+fn tried<B: BrakingBook>(scene: &Scene<'_, B>, first: usize, j: usize) -> [[Option<u8>; 10]; 10] {
+    let is_before_ground = j.saturating_add(1) < first;
+    Code::ALL.map(|code| {
+        let four = scene.first_of_four(j, code);
+        Code::ALL.map(|next| {
+            let is_five = four.is_none() && is_before_ground && !scene.obeys_5(j, code, next);
+            if is_five { Some(5) } else { four }
+        })
     })
 }
 
-// The first of the rules 1 to 4 that is broken, by interval and code.
-fn tried_by_four(heap: Global, scene: &Scene, held: usize) -> anyhow::Result<Vec<u8>> {
-    let mut four = Vec::new(heap);
-    for j in 0..held.saturating_add(1) {
-        for code in all_codes() {
-            four.push(first_of_four(scene, j, *code))?;
-        }
-    }
-    Ok(four)
+// The place of a code among the ten.
+fn rank(code: Code) -> usize {
+    Code::ALL
+        .iter()
+        .position(|known| *known == code)
+        .unwrap_or(0)
 }
 
-// Whether rule 5 is obeyed, by interval, code and next code.
-fn tried_by_five(heap: Global, scene: &Scene, held: usize) -> anyhow::Result<Vec<bool>> {
-    let mut five = Vec::new(heap);
-    for j in 0..held.saturating_add(1) {
-        for code in all_codes() {
-            for next in all_codes() {
-                five.push(obeys_5(scene, j, *code, *next))?;
-            }
-        }
-    }
-    Ok(five)
-}
-
-impl Verdicts {
-    // Tries every code in every interval from the approach to that of the sheet's first mark, by a book.
-    pub fn new<B: BrakingBook>(heap: Global, sheet: Sheet, book: &B) -> anyhow::Result<Verdicts> {
-        let scene = scene_of(heap, sheet, book)?;
-        let held = held_in(&scene);
-        let first = first_of_ground(&scene, held);
-        let is_sf = is_sf(&scene, first);
-        let four = tried_by_four(heap, &scene, held)?;
-        let five = tried_by_five(heap, &scene, held)?;
+impl<'a, B: BrakingBook> Verdicts<'a, B> {
+    // Tries every code in every interval from the approach to that of the sheet's first mark, by a book; only in the approach where
+    // the mark stands in no interval.
+    pub fn new(heap: Global, sheet: Sheet, book: &'a B) -> anyhow::Result<Verdicts<'a, B>> {
+        let scene = Scene::new(heap, sheet, book)?;
+        let held = scene.held_in().unwrap_or(0);
+        let first = scene.first_of_ground(held);
+        let letter = scene.letter(first);
+        let broken = (0..=held).map(|j| tried(&scene, first, j)).collect(heap)?;
         Ok(Verdicts {
             scene,
             held,
             first,
-            is_sf,
-            four,
-            five,
+            letter,
+            broken,
         })
     }
 
-    // The first rule that a code breaks in interval j before the next code.
-    fn rule(&self, j: usize, code: usize, next: usize) -> u8 {
-        let place = j.saturating_mul(10).saturating_add(code);
-        let rule = self.four.get(place).copied().unwrap_or(0);
-        let place = place.saturating_mul(10).saturating_add(next);
-        let is_obeyed = self.five.get(place).copied().unwrap_or(true);
-        if rule == 0 && j.saturating_add(1) < self.first && !is_obeyed {
-            5
-        } else {
-            rule
-        }
+    // The first rule that a code breaks in interval j before the next code, if any.
+    fn rule(&self, j: usize, code: Code, next: Code) -> Option<u8> {
+        let by_code = self.broken.get(j)?;
+        let by_next = by_code.get(rank(code))?;
+        by_next.get(rank(next)).copied().flatten()
     }
 
-    // The first break of a row, which begins with the code of the approach.
-    pub fn verdict(&self, row: &[usize]) -> Verdict {
-        for j in 0..row.len() {
-            let next = row.get(j + 1).copied().unwrap_or(0);
-            let rule = self.rule(j, row[j], next);
-            if rule > 0 {
-                return Verdict { interval: j, rule };
-            }
-        }
-        Verdict {
-            interval: 0,
-            rule: 0,
-        }
+    // The verdict on a row at an approach code: its first break, if any.
+    pub fn verdict(&self, approach: Speed, row: &[Code]) -> Result<(), Break> {
+        once(Code::Go(approach))
+            .chain(row.iter().copied())
+            .enumerate()
+            .try_for_each(|(interval, code)| {
+                let next = row.get(interval).copied().unwrap_or(Code::Stop);
+                match self.rule(interval, code, next) {
+                    None => Ok(()),
+                    Some(rule) => Err(Break { interval, rule }),
+                }
+            })
     }
 }

@@ -1,5 +1,6 @@
 // A sheet that owns the records of a line.
 ghost use Rattle.std.specs.Prelude.{◌≡◌, []};
+ghost use Rattle.trials.specs.Sheets.{end_after};
 
 use codes::{Class, Speed};
 use ground::Entry;
@@ -31,6 +32,16 @@ impl Sheet {
             restrictions: Vec::new(heap),
             marks: Vec::new(heap),
         }
+    }
+
+    // Where the n-th interval ends, and the last one where there are fewer; the start where n is 0. No end lies beyond the highest u32.
+    pub fn end_of(&self, n: usize) -> u32
+        ensures { result ≡ end_after self.now.start self.now.intervals.items n }
+    {
+        self.intervals.iter().take(n).fold(
+            self.start,
+            |end, interval| end.saturating_add(interval.length),
+        )
     }
 
     // The sheet as the library takes it.
