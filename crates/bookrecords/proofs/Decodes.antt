@@ -1,5 +1,6 @@
 -- The bytes of a record decode to what it says, and only they do. Assumes nothing.
-use Rattle.std.proofs.Common.{◌≡◌, ℕ, zero, suc, ◌+◌, ◌-◌, ◌*◌, ◌/◌, ◌%◌, ◌<◌, ◌≤◌, Bool, true, false, cond, ◌&&◌, ◌||◌, eqb, ltb, leb, List, [], ◌∷◌, ◌++◌, length, get_or, take, drop, IfOk, IsTrue, MatchOption, Some, None, Ok, Err, Option, Result, sym, refl, ap, ◌∙◌, subst, inl, inr, add-zero, arith, drop-cons, ltb-false, ltb-true, le-ltb, lt-ltb, eq-eqb, ne_eqb, eqb-true, le-leb, leb-true}
+use Rattle.std.proofs.Common.{◌≡◌, ℕ, zero, suc, ◌+◌, ◌-◌, ◌*◌, ◌/◌, ◌%◌, ◌<◌, ◌≤◌, Bool, true, false, cond, ◌&&◌, ◌||◌, eqb, ltb, leb, List, [], ◌∷◌, ◌++◌, length, get_or, take, drop, IfOk, IsTrue, MatchOption, Some, None, Ok, Err, ok_or, Option, Result, sym, refl, ap, ◌∙◌, subst, inl, inr, add-zero, arith, drop-cons, ltb-false, ltb-true, le-ltb, lt-ltb, eq-eqb, ne_eqb, eqb-true, le-leb, leb-true}
+use Rattle.std.specs.Result.{result_or}
 use Rattle.std.specs.Borrow.{Bor}
 use Rattle.std.specs.List.{between}
 use Rattle.std.proofs.lemmas.Bool.{and_parts, and_from, and_left, or_from, or_parts, cond-true, cond-false, cases_Bool}
@@ -19,7 +20,7 @@ use Rattle.codes.specs.declared.refusals.Refusal.{Refusal}
 use Rattle.bookrecords.specs.declared.records.Record.{Record}
 use Rattle.bookrecords.specs.Reading.{said, Placed, Fronts, told_record}
 use Rattle.bookrecords.specs.Records.{Said, states, remarks, content, spelt, Possible, Begins}
-use Rattle.bookrecords.specs.Decoding.{number_at, torn, Whole, known, emergency_entry, service_entry, emergency_said, service_said, remark_said, decoded}
+use Rattle.bookrecords.specs.Decoding.{number_at, torn, Whole, known, headed, told_further, emergency_entry, service_entry, emergency_said, service_said, remark_said, decoded}
 
 module _ (bytes : List ℕ) where
   -- a record whose length counts 2 bytes or more that are there
@@ -97,6 +98,18 @@ module _ (bytes : List ℕ) where
   -- the parts that were found
   pub whole_found : (found : Option (ℕ × Bor (List ℕ))) → MatchOption found (IsTrue (torn bytes)) (Whole bytes) → (parts : ℕ × Bor (List ℕ)) → found ≡ Some parts → Whole bytes parts
   whole_found found whole parts is = let there : MatchOption (Some parts) (IsTrue (torn bytes)) (Whole bytes) = subst (λ o. MatchOption o (IsTrue (torn bytes)) (Whole bytes)) is whole in there
+
+-- ---- an entry whose parts are known
+
+-- what stands where a refusal was put in the place of another
+pub chosen : {X : Type 0} (why other : Refusal) (o : Option X) (r : Result X Refusal) → r ≡ ok_or o why → (x : X) → Ok x ≡ result_or r (Err other) → o ≡ Some x
+chosen {X} why other None r e x is = let said : ◌≡◌ {A = Result X Refusal} (Ok x) (Err other) = is ∙ ap (λ s. result_or s (Err other)) e in cc
+chosen {X} why other (Some y) r e x is = let said : ◌≡◌ {A = Result X Refusal} (Ok x) (Ok y) = is ∙ ap (λ s. result_or s (Err other)) e in cc
+
+pub emergency_known : (class from to m : ℕ) (r : Result (Class × Speed) Refusal) → ((f : Class → Speed → Told Said) → headed class from f ≡ told_further f r) → (k : Class) (v : Speed) (w : Code) → r ≡ Ok (k, v) → code_of to ≡ Some w → emergency_entry class from to m ≡ cond (lower w (Go v) && metres m) (gives (states (emergency k v w) m)) (refuses (17, []))
+emergency_known class from to m r head k v w is code =
+    let further : Class → Speed → Told Said = λ j u. known (code_of to) (λ d. cond (lower d (Go u) && metres m) (gives (states (emergency j u d) m)) (refuses (17, []))) in
+    head further ∙ ap (told_further further) is ∙ ap (λ o. known o (λ d. cond (lower d (Go v) && metres m) (gives (states (emergency k v d) m)) (refuses (17, [])))) code
 
 -- ---- numbers, speeds, codes and classes, there and back
 

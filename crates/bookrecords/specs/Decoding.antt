@@ -3,15 +3,20 @@
 --     Numbered bytes p      the bytes begin with the number p.0, and p.1 stands behind it
 --     torn bytes            no record stands there: one byte is left, or its length is below 2 or reaches past the bytes
 --     Whole bytes p         the record at the front is not torn, its kind is p.0 and its content p.1
+--     headed class from f   what f says of the class and the speed; else refused by 17
+--     told_further f r      what f says of the class and the speed of an outcome
 --     emergency_entry class from to metres, service_entry class from metres    what these bytes say; else refused by 17
 --     decoded bytes         what the record at the front says; else refused by 15 (torn), 16 (kind) or 17 (entry)
-use Rattle.std.specs.Prelude.{ℕ, ◌+◌, ◌-◌, ◌*◌, ◌≡◌, ◌≤◌, Bool, false, cond, ◌&&◌, ◌||◌, List, [], length, drop, Some, None, Option, ◌==◌, nat_lt, slice_index}
+use Rattle.std.specs.Prelude.{ℕ, ◌+◌, ◌-◌, ◌*◌, ◌≡◌, ◌≤◌, Bool, false, cond, ◌&&◌, ◌||◌, List, [], length, drop, Some, None, Ok, Err, Option, Result, ◌==◌, nat_lt, slice_index}
 use Rattle.std.specs.Borrow.{Bor}
 use Rattle.std.specs.List.{between}
+use Rattle.codes.specs.declared.gradients.Class.{Class}
+use Rattle.codes.specs.declared.speeds.Speed.{Speed}
+use Rattle.codes.specs.declared.refusals.Refusal.{Refusal}
 use Rattle.codes.specs.declared.speeds.Code.TheVariants.{Go}
 use Rattle.codes.specs.Speeds.{lower, speed_of, code_of}
 use Rattle.codes.specs.Gradients.{class_of}
-use Rattle.codes.specs.Refusals.{Told, gives, refuses}
+use Rattle.codes.specs.Refusals.{Told, gives, refuses, notice}
 use Rattle.laws.specs.Judged.{metres}
 use Rattle.laws.specs.Questions.{emergency, service}
 use Rattle.bookrecords.specs.Records.{Said, states, remarks}
@@ -39,16 +44,24 @@ abbrev pub known : {X : Type 0} → Option X → (X → Told Said) → Told Said
 known None f = refuses (17, [])
 known (Some x) f = f x
 
+-- what a record says further once its class and from are known
+abbrev pub headed : ℕ → ℕ → (Class → Speed → Told Said) → Told Said
+headed class from further = known (class_of class) (λ k. known (speed_of from) (further k))
+
+-- the same of an outcome
+abbrev pub told_further : (Class → Speed → Told Said) → Result (Class × Speed) Refusal → Told Said
+told_further further (Ok (k, from)) = further k from
+told_further further (Err w) = refuses (notice w)
+
 -- what a class, from, to and metres say; and what a class, from and metres say
 abbrev pub emergency_entry : ℕ → ℕ → ℕ → ℕ → Told Said
 emergency_entry class from to distance =
-    known (class_of class) (λ k. known (speed_of from) (λ v. known (code_of to) (λ w.
-    cond (lower w (Go v) && metres distance) (gives (states (emergency k v w) distance)) (refuses (17, [])))))
+    headed class from (λ k v. known (code_of to) (λ w.
+    cond (lower w (Go v) && metres distance) (gives (states (emergency k v w) distance)) (refuses (17, []))))
 
 abbrev pub service_entry : ℕ → ℕ → ℕ → Told Said
 service_entry class from distance =
-    known (class_of class) (λ k. known (speed_of from) (λ v.
-    cond (metres distance) (gives (states (service k v) distance)) (refuses (17, []))))
+    headed class from (λ k v. cond (metres distance) (gives (states (service k v) distance)) (refuses (17, [])))
 
 abbrev pub emergency_said : List ℕ → Told Said
 emergency_said bytes = emergency_entry (slice_index bytes 4) (slice_index bytes 5) (slice_index bytes 6) (number_at bytes 7)

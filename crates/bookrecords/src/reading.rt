@@ -1,7 +1,12 @@
 // Reading a book file record by record.
-ghost use Rattle.std.specs.Prelude.{◌≡◌, ℕ, ◌+◌, ◌-◌, ◌^◌, ◌<◌, ◌≤◌, length, drop, IfOk, IsTrue, MatchOption};
-ghost use Rattle.bookrecords.specs.Decoding.{torn, Numbered, Whole, emergency_entry, service_entry, decoded};
-ghost use Rattle.bookrecords.specs.Records.{spelt};
+ghost use Rattle.std.specs.Prelude.{◌≡◌, ℕ, ◌+◌, ◌-◌, ◌^◌, ◌<◌, ◌≤◌, ◌&&◌, length, drop, IfOk, IsTrue, MatchOption};
+ghost use Rattle.codes.specs.declared.gradients.Class.{Class};
+ghost use Rattle.codes.specs.declared.speeds.Speed.{Speed};
+ghost use Rattle.codes.specs.Refusals.{Told};
+ghost use Rattle.codes.specs.Speeds.{lower};
+ghost use Rattle.laws.specs.Judged.{metres};
+ghost use Rattle.bookrecords.specs.Decoding.{torn, Numbered, Whole, headed, told_further, emergency_entry, service_entry, decoded};
+ghost use Rattle.bookrecords.specs.Records.{Said, spelt};
 ghost use Rattle.bookrecords.specs.Reading.{said, told_record, Placed, Fronts, Hands};
 
 use super::records::Record;
@@ -32,16 +37,31 @@ fn kind_and_content(bytes: &[u8]) -> Option<(u16, &[u8])>
     split_number(rest.get(..length as usize)?)
 }
 
+// The class and the speed that records begin with.
+fn class_and_from(class: u8, from: u8) -> Result<(Class, Speed), Refusal>
+    ensures { (further : Class → Speed → Told Said) → headed class from further ≡ told_further further result }
+{
+    let class = Class::try_from(class)?;
+    let from = Speed::try_from(from).or(Err(Refusal::Record(RecordFault::Entry)))?;
+    Ok((class, from))
+}
+
+// Whether an emergency record can say so.
+fn is_possible(from: Speed, to: Code, distance: u16) -> bool
+    ensures { result ≡ (lower to (Code.Go from) && metres distance) }
+{
+    to < Code::Go(from) && is_distance(distance)
+}
+
 // What a kind 1 record says by its bytes.
 fn emergency_record<'a>(class: u8, from: u8, to: u8, metres: u16) -> Result<Record<'a>, Refusal>
     ensures said { told_record result ≡ emergency_entry class from to metres }
     ensures placed { (place : ℕ) → IfOk result (Placed place) }
 {
     let entry = Refusal::Record(RecordFault::Entry);
-    let class = Class::from_number(class).ok_or(entry)?;
-    let from = Speed::from_kmh(from).ok_or(entry)?;
-    let to = Code::from_byte(to).ok_or(entry)?;
-    if !to.is_below(Code::Go(from)) || !is_distance(metres) {
+    let (class, from) = class_and_from(class, from)?;
+    let to = Code::try_from(to).or(Err(entry))?;
+    if !is_possible(from, to, metres) {
         return Err(entry);
     }
     Ok(Record::Emergency {
@@ -57,11 +77,9 @@ fn service_record<'a>(class: u8, from: u8, metres: u16) -> Result<Record<'a>, Re
     ensures said { told_record result ≡ service_entry class from metres }
     ensures placed { (place : ℕ) → IfOk result (Placed place) }
 {
-    let entry = Refusal::Record(RecordFault::Entry);
-    let class = Class::from_number(class).ok_or(entry)?;
-    let from = Speed::from_kmh(from).ok_or(entry)?;
+    let (class, from) = class_and_from(class, from)?;
     if !is_distance(metres) {
-        return Err(entry);
+        return Err(Refusal::Record(RecordFault::Entry));
     }
     Ok(Record::Service {
         class,
