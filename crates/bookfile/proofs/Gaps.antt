@@ -1,26 +1,11 @@
 -- Where a table has a gap. Assumes nothing.
-use Rattle.std.proofs.Common.{◌≡◌, ℕ, zero, suc, ◌+◌, ◌<◌, ◌≤◌, true, false, ◌||◌, eqb, List, [], ◌∷◌, length, get_or, drop, sym, ap, ◌∙◌, inl, inr, arith, eq-eqb, ne_eqb, eqb-true}
+use Rattle.std.proofs.Common.{◌≡◌, ℕ, zero, suc, ◌<◌, ◌≤◌, true, false, eqb, List, [], ◌∷◌, length, get_or, inl, inr, arith, eqb-true}
 use borrow.Author.Tests.{eqb-false}
-use Rattle.std.proofs.lemmas.List.{drop_more, drop_all}
 use Rattle.std.proofs.lemmas.Bool.{or_cases, or_parts}
 use Rattle.bookfile.specs.Entering.{has_gap}
 
-module _ (xs : List ℕ) (i : ℕ) where
-  pub gap_here : i < length xs → get_or xs i 0 ≡ 0 → has_gap (drop i xs) ≡ true
-  unfolding has_gap
-  gap_here l e = ap has_gap (drop_more xs i 0 l) ∙ ap (λ b. b || has_gap (drop (i + 1) xs)) (eq-eqb _ _ e)
-
-  pub gap_further : i < length xs → (get_or xs i 0 ≡ 0 → ⊥) → has_gap (drop (i + 1) xs) ≡ has_gap (drop i xs)
-  unfolding has_gap
-  gap_further l n = sym (ap has_gap (drop_more xs i 0 l) ∙ ap (λ b. b || has_gap (drop (i + 1) xs)) (ne_eqb _ _ n))
-
-  pub gap_none : length xs ≤ i → has_gap (drop i xs) ≡ false
-  unfolding has_gap
-  gap_none l = ap has_gap (drop_all i xs l)
-
 -- the place of a gap
 pub gap_place : (xs : List ℕ) → has_gap xs ≡ true → (i : ℕ) × ((i < length xs) × (get_or xs i 0 ≡ 0))
-unfolding has_gap
 gap_place [] e = absurd (let z : ◌≡◌ {A = ℕ} 0 1 = cc in omega arith)
 gap_place (x ∷ xs) e =
     elim (or_cases (eqb x 0) (has_gap xs) e) [
@@ -30,7 +15,6 @@ gap_place (x ∷ xs) e =
 
 -- a table without a gap has a figure at each place
 pub gapless : (xs : List ℕ) → has_gap xs ≡ false → (i : ℕ) → i < length xs → 1 ≤ get_or xs i 0
-unfolding has_gap
 gapless [] e i l = absurd (omega arith)
 gapless (x ∷ xs) e zero l = let n = eqb-false x 0 (or_parts (eqb x 0) (has_gap xs) e).0 in omega arith
 gapless (x ∷ xs) e (suc i) l = gapless xs (or_parts (eqb x 0) (has_gap xs) e).1 i (omega arith)

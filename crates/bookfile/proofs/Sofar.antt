@@ -1,5 +1,5 @@
 -- What is known of a file and a table while its records are entered. Assumes nothing.
-use Rattle.std.proofs.Common.{◌≡◌, ℕ, ◌+◌, ◌<◌, ◌≤◌, List, [], ◌∷◌, ◌++◌, length, get_or, drop, replicate, Ok, Err, sym, refl, ap, ◌∙◌, subst, arith}
+use Rattle.std.proofs.Common.{◌≡◌, ℕ, ◌+◌, ◌<◌, ◌≤◌, List, [], ◌∷◌, ◌++◌, length, get_or, drop, replicate, IsErrAnd, Ok, Err, Result, sym, refl, ap, ◌∙◌, subst, arith}
 use Rattle.std.specs.List.{AllByRecursion}
 use Rattle.std.proofs.ByRecursion.{All-push}
 use Rattle.std.proofs.lemmas.List.{append-nil, append_assoc, length-append, length-set, length-drop, length-replicate, drop-drop, drop_all}
@@ -10,8 +10,9 @@ use Rattle.bookrecords.specs.Records.{Said, states, remarks, spelt, spelling, Po
 use Rattle.bookrecords.specs.Decoding.{decoded}
 use Rattle.bookrecords.specs.Files.{given}
 use Rattle.bookrecords.proofs.Unique.{spelling_push}
-use Rattle.bookfile.specs.Faults.{Sound, Faulty, damaged, twice}
-use Rattle.bookfile.specs.Entering.{Holds, Enters, Filled}
+use Rattle.bookfile.specs.Faults.{located, Sound, Faulty, damaged, twice}
+use Rattle.bookfile.specs.declared.faults.Fault.{Fault}
+use Rattle.bookfile.specs.Entering.{Holds, Enters, Filled, Fills}
 use Rattle.bookfile.proofs.Entries.{holds_none, holds_remark, holds_more, sound_from_holds, entry_some}
 
 -- the records before place p were entered into the table xs
@@ -86,3 +87,20 @@ module _ (file : List ℕ) (p : ℕ) (xs : List ℕ) (sofar : Sofar file p xs) w
       subst (λ n. Faulty file n p) (sym number) (subst (Faulty file 18) (sym sofar.stands)
       (twice sofar.records q m (drop (p + length (spelt (states q m))) file) (sound file p xs sofar) (parts file p xs sofar (states q m) begins) begins.possible (omega arith)))
   sofar_twice (remarks bytes) begins w ys entered = absurd entered
+
+-- ---- a refusal that was given its place
+
+module _ {T : Type 0} (p : ℕ) where
+  pub refused_at : (o : Result T Refusal) (r : Result T Fault) → r ≡ located p o → (f : Fault) → r ≡ Err f → (o ≡ Err f.refusal) × (p ≡ f.place)
+  refused_at (Ok x) r e f is = cc
+  refused_at (Err w) r e f is = let same : ◌≡◌ {A = Fault} (record { refusal = w; place = p }) f = cc in (ap (λ (g : Fault). Err g.refusal) same, ap (λ (g : Fault). g.place) same)
+
+  pub passed_at : (o : Result T Refusal) (r : Result T Fault) → r ≡ located p o → (x : T) → r ≡ Ok x → o ≡ Ok x
+  passed_at (Ok y) r e x is = cc
+  passed_at (Err w) r e x is = cc
+
+-- a fault that is due is what the filling of the table comes to
+pub faulty_fills : (file xs : List ℕ) (p : ℕ) (f : Fault) → p ≡ f.place → Faulty file (notice f.refusal).0 p → (r : Result (Unit {0}) Fault) → IsErrAnd r (λ g. g ≡ f) → Fills file r xs
+faulty_fills file xs p f here due (Ok done) is = absurd is
+faulty_fills file xs p f here due (Err g) is =
+    subst (λ (h : Fault). Faulty file (notice h.refusal).0 h.place) (sym is) (subst (Faulty file (notice f.refusal).0) here due)

@@ -1,10 +1,12 @@
 -- Why a file is not the file of a book, and where; and what reading one leaves. Assumes nothing.
+--     located place r      the outcome r, whose refusal is due at the place
 --     Sound rs             records that are possible and state no figure twice
 --     Faulty file n p      refusal n is due to the file, at place p
 --     Acceptable file table    the sizes are right, and the file is that of some book
 --     Read file before r after    reading the file into the table before answered r and left the table after
 use Rattle.std.specs.Prelude.{◌≡◌, ℕ, ◌<◌, ◌≤◌, Bool, true, false, ◌&&◌, List, [], ◌∷◌, ◌++◌, length, replicate, Ok, Err, Result, ◌==◌, nat_le}
 use Rattle.std.specs.List.{AllByRecursion}
+use Rattle.codes.specs.declared.refusals.Refusal.{Refusal}
 use Rattle.codes.specs.Refusals.{refuses, notice}
 use Rattle.laws.specs.Books.{Emergencies, Services, Laws}
 use Rattle.laws.specs.Questions.{Question, Asks, figure, emergency_of, service_of}
@@ -12,6 +14,10 @@ use Rattle.bookrecords.specs.Records.{Said, states, spelt, spelling, Possible}
 use Rattle.bookrecords.specs.Decoding.{decoded}
 use Rattle.bookfile.specs.declared.faults.Fault.{Fault}
 use Rattle.bookrecords.specs.Files.{given, Means}
+
+abbrev pub located : {T : Type 0} → ℕ → Result T Refusal → Result T Fault
+located place (Ok done) = Ok done
+located place (Err why) = Err (record { refusal = why; place = place })
 
 pub record Sound (rs : List Said) : Type 0 where
   pub possible : AllByRecursion Possible rs

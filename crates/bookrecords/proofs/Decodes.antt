@@ -1,5 +1,7 @@
 -- The bytes of a record decode to what it says, and only they do. Assumes nothing.
-use Rattle.std.proofs.Common.{◌≡◌, ℕ, zero, suc, ◌+◌, ◌-◌, ◌*◌, ◌/◌, ◌%◌, ◌<◌, ◌≤◌, Bool, true, false, cond, ◌&&◌, ◌||◌, eqb, ltb, leb, List, [], ◌∷◌, ◌++◌, length, get_or, take, drop, IfOk, Some, None, Ok, Err, Option, Result, sym, refl, ap, ◌∙◌, subst, inl, inr, add-zero, arith, drop-cons, ltb-false, ltb-true, le-ltb, lt-ltb, eq-eqb, ne_eqb, eqb-true, le-leb, leb-true}
+use Rattle.std.proofs.Common.{◌≡◌, ℕ, zero, suc, ◌+◌, ◌-◌, ◌*◌, ◌/◌, ◌%◌, ◌<◌, ◌≤◌, Bool, true, false, cond, ◌&&◌, ◌||◌, eqb, ltb, leb, List, [], ◌∷◌, ◌++◌, length, get_or, take, drop, IfOk, IsTrue, MatchOption, Some, None, Ok, Err, ok_or, Option, Result, sym, refl, ap, ◌∙◌, subst, inl, inr, add-zero, arith, drop-cons, ltb-false, ltb-true, le-ltb, lt-ltb, eq-eqb, ne_eqb, eqb-true, le-leb, leb-true}
+use Rattle.std.specs.Result.{result_or}
+use Rattle.std.specs.Borrow.{Bor}
 use Rattle.std.specs.List.{between}
 use Rattle.std.proofs.lemmas.Bool.{and_parts, and_from, and_left, or_from, or_parts, cond-true, cond-false, cases_Bool}
 use Rattle.codes.specs.declared.speeds.Speed.{Speed}
@@ -8,7 +10,7 @@ use Rattle.codes.specs.declared.gradients.Class.{Class}
 use Rattle.codes.specs.Speeds.{kmh, byte, lower, speeds, codes, speed_of, code_of}
 use Rattle.codes.specs.Gradients.{number, classes, class_of}
 use Rattle.codes.proofs.Numbered.{numbered_is, class_back, speed_back, code_back}
-use Rattle.std.proofs.lemmas.List.{length-append, length-drop, length-take-le, take_at, take-append-drop, drop-drop}
+use Rattle.std.proofs.lemmas.List.{length-append, length-drop, length-take-le, get_or-take, get_or-drop, take_at, take-append-drop, drop-drop}
 use Rattle.codes.specs.Refusals.{Told, gives, refuses}
 use Rattle.codes.specs.declared.speeds.Code.TheVariants.{Go}
 use Rattle.laws.specs.Books.{Metres}
@@ -18,7 +20,7 @@ use Rattle.codes.specs.declared.refusals.Refusal.{Refusal}
 use Rattle.bookrecords.specs.declared.records.Record.{Record}
 use Rattle.bookrecords.specs.Reading.{said, Placed, Fronts, told_record}
 use Rattle.bookrecords.specs.Records.{Said, states, remarks, content, spelt, Possible, Begins}
-use Rattle.bookrecords.specs.Decoding.{number_at, torn, known, emergency_said, service_said, remark_said, decoded}
+use Rattle.bookrecords.specs.Decoding.{number_at, torn, Whole, known, headed, told_further, emergency_entry, service_entry, emergency_said, service_said, remark_said, decoded}
 
 module _ (bytes : List ℕ) where
   -- a record whose length counts 2 bytes or more that are there
@@ -27,6 +29,13 @@ module _ (bytes : List ℕ) where
       or_from (ltb (length bytes) 2 || ltb (number_at bytes 0) 2) (ltb (length bytes - 2) (number_at bytes 0))
       (or_from (ltb (length bytes) 2) (ltb (number_at bytes 0) 2) (le-ltb _ _ some) (le-ltb _ _ long))
       (le-ltb _ _ there)
+
+  whole_parts : torn bytes ≡ false → (2 ≤ number_at bytes 0) × (2 + number_at bytes 0 ≤ length bytes)
+  whole_parts whole =
+      let parts = or_parts (ltb (length bytes) 2 || ltb (number_at bytes 0) 2) (ltb (length bytes - 2) (number_at bytes 0)) whole in
+      let front = or_parts (ltb (length bytes) 2) (ltb (number_at bytes 0) 2) parts.0 in
+      let some = ltb-false _ _ front.0 in let long = ltb-false _ _ front.1 in let there = ltb-false _ _ parts.1 in
+      (long, omega arith)
 
   module _ (whole : torn bytes ≡ false) where
     other_kind : {X : Type 0} (n l : ℕ) (x y : X) → (number_at bytes 2 ≡ n → ⊥) → cond (eqb (number_at bytes 2) n && eqb (number_at bytes 0) l) x y ≡ y
@@ -46,6 +55,61 @@ module _ (bytes : List ℕ) where
     decoded_remark k =
         cond-false (torn bytes) _ _ whole ∙ other_kind 1 7 _ _ (λ e. omega arith) ∙ other_kind 2 6 _ _ (λ e. omega arith)
         ∙ cond-true (eqb (number_at bytes 2) 3) _ _ (eq-eqb _ _ k)
+
+  -- a record that is known by its content, byte by byte
+  module _ (parts : ℕ × Bor (List ℕ)) (stands : Whole bytes parts) where
+    content_length : length parts.1.now ≡ number_at bytes 0 - 2
+    content_length =
+        let there = whole_parts stands.whole in
+        let size = length-take-le (2 + number_at bytes 0 - 4) (drop 4 bytes) (let left = length-drop 4 bytes in omega arith) in
+        let same = ap length stands.content in
+        omega arith
+
+    content_at : (i : ℕ) → i < length parts.1.now → get_or parts.1.now i 0 ≡ get_or bytes (4 + i) 0
+    content_at i l =
+        ap (λ xs. get_or xs i 0) stands.content
+        ∙ get_or-take (2 + number_at bytes 0 - 4) (drop 4 bytes) i 0 (let size = content_length in omega arith) ∙ get_or-drop 4 bytes i 0
+
+    pub emergency_from_five : parts.0 ≡ 1 → length parts.1.now ≡ 5 → (m : ℕ) → m ≡ number_at parts.1.now 3 → emergency_entry (get_or parts.1.now 0 0) (get_or parts.1.now 1 0) (get_or parts.1.now 2 0) m ≡ decoded bytes
+    emergency_from_five kind five m far =
+        let there = whole_parts stands.whole in
+        let size = content_length in
+        let b0 = content_at 0 (omega arith) in
+        let b1 = content_at 1 (omega arith) in
+        let b2 = content_at 2 (omega arith) in
+        let b3 = content_at 3 (omega arith) in
+        let b4 = content_at 4 (omega arith) in
+        let same : m ≡ number_at bytes 7 = omega arith in
+        let said : emergency_entry (get_or parts.1.now 0 0) (get_or parts.1.now 1 0) (get_or parts.1.now 2 0) m ≡ emergency_said bytes = cc in
+        said ∙ sym (decoded_emergency stands.whole (sym stands.kind ∙ kind) (omega arith))
+
+    pub service_from_four : parts.0 ≡ 2 → length parts.1.now ≡ 4 → (m : ℕ) → m ≡ number_at parts.1.now 2 → service_entry (get_or parts.1.now 0 0) (get_or parts.1.now 1 0) m ≡ decoded bytes
+    service_from_four kind four m far =
+        let there = whole_parts stands.whole in
+        let size = content_length in
+        let b0 = content_at 0 (omega arith) in
+        let b1 = content_at 1 (omega arith) in
+        let b2 = content_at 2 (omega arith) in
+        let b3 = content_at 3 (omega arith) in
+        let same : m ≡ number_at bytes 6 = omega arith in
+        let said : service_entry (get_or parts.1.now 0 0) (get_or parts.1.now 1 0) m ≡ service_said bytes = cc in
+        said ∙ sym (decoded_service stands.whole (sym stands.kind ∙ kind) (omega arith))
+
+  -- the parts that were found
+  pub whole_found : (found : Option (ℕ × Bor (List ℕ))) → MatchOption found (IsTrue (torn bytes)) (Whole bytes) → (parts : ℕ × Bor (List ℕ)) → found ≡ Some parts → Whole bytes parts
+  whole_found found whole parts is = let there : MatchOption (Some parts) (IsTrue (torn bytes)) (Whole bytes) = subst (λ o. MatchOption o (IsTrue (torn bytes)) (Whole bytes)) is whole in there
+
+-- ---- an entry whose parts are known
+
+-- what stands where a refusal was put in the place of another
+pub chosen : {X : Type 0} (why other : Refusal) (o : Option X) (r : Result X Refusal) → r ≡ ok_or o why → (x : X) → Ok x ≡ result_or r (Err other) → o ≡ Some x
+chosen {X} why other None r e x is = let said : ◌≡◌ {A = Result X Refusal} (Ok x) (Err other) = is ∙ ap (λ s. result_or s (Err other)) e in cc
+chosen {X} why other (Some y) r e x is = let said : ◌≡◌ {A = Result X Refusal} (Ok x) (Ok y) = is ∙ ap (λ s. result_or s (Err other)) e in cc
+
+pub emergency_known : (class from to m : ℕ) (r : Result (Class × Speed) Refusal) → ((f : Class → Speed → Told Said) → headed class from f ≡ told_further f r) → (k : Class) (v : Speed) (w : Code) → r ≡ Ok (k, v) → code_of to ≡ Some w → emergency_entry class from to m ≡ cond (lower w (Go v) && metres m) (gives (states (emergency k v w) m)) (refuses (17, []))
+emergency_known class from to m r head k v w is code =
+    let further : Class → Speed → Told Said = λ j u. known (code_of to) (λ d. cond (lower d (Go u) && metres m) (gives (states (emergency j u d) m)) (refuses (17, []))) in
+    head further ∙ ap (told_further further) is ∙ ap (λ o. known o (λ d. cond (lower d (Go v) && metres m) (gives (states (emergency k v d) m)) (refuses (17, [])))) code
 
 -- ---- numbers, speeds, codes and classes, there and back
 
@@ -198,16 +262,9 @@ module _ (bytes : List ℕ) (fit : (i : ℕ) → get_or bytes i 0 < 256) where
           spells = remark_spells (2 + number_at bytes 0 - 4) (omega arith) (omega arith) kind ∙ ap (λ n. spelt (remarks content) ++ drop n bytes) size;
         })
 
-    whole_parts : torn bytes ≡ false → (2 ≤ number_at bytes 0) × (2 + number_at bytes 0 ≤ length bytes)
-    whole_parts whole =
-        let parts = or_parts (ltb (length bytes) 2 || ltb (number_at bytes 0) 2) (ltb (length bytes - 2) (number_at bytes 0)) whole in
-        let front = or_parts (ltb (length bytes) 2) (ltb (number_at bytes 0) 2) parts.0 in
-        let some = ltb-false _ _ front.0 in let long = ltb-false _ _ front.1 in let there = ltb-false _ _ parts.1 in
-        (long, omega arith)
-
     kind_begins : torn bytes ≡ false → decoded bytes ≡ gives s → Begins bytes s
     kind_begins whole e =
-        let there = whole_parts whole in
+        let there = whole_parts bytes whole in
         let at-kind = sym (cond-false (torn bytes) _ _ whole) ∙ e in
         elim (cases_Bool (eqb (number_at bytes 2) 1 && eqb (number_at bytes 0) 7)) [
           | inl one ↦

@@ -1,7 +1,12 @@
 // Reading a book file record by record.
-ghost use Rattle.std.specs.Prelude.{◌≡◌, ℕ, ◌+◌, ◌-◌, ◌^◌, ◌<◌, ◌≤◌, length, drop, IfOk};
-ghost use Rattle.bookrecords.specs.Decoding.{number_at, emergency_said, service_said, decoded};
-ghost use Rattle.bookrecords.specs.Records.{spelt};
+ghost use Rattle.std.specs.Prelude.{◌≡◌, ℕ, ◌+◌, ◌-◌, ◌^◌, ◌<◌, ◌≤◌, ◌&&◌, length, drop, IfOk, IsTrue, MatchOption};
+ghost use Rattle.codes.specs.declared.gradients.Class.{Class};
+ghost use Rattle.codes.specs.declared.speeds.Speed.{Speed};
+ghost use Rattle.codes.specs.Refusals.{Told};
+ghost use Rattle.codes.specs.Speeds.{lower};
+ghost use Rattle.laws.specs.Judged.{metres};
+ghost use Rattle.bookrecords.specs.Decoding.{torn, Numbered, Whole, headed, told_further, emergency_entry, service_entry, decoded};
+ghost use Rattle.bookrecords.specs.Records.{Said, spelt};
 ghost use Rattle.bookrecords.specs.Reading.{said, told_record, Placed, Fronts, Hands};
 
 use super::records::Record;
@@ -16,26 +21,47 @@ pub struct Reader<'a> {
     ghost within: { place ≤ length file.now },
 }
 
-// A number in two bytes, the low one first.
-fn number_at(bytes: &[u8], place: usize) -> u16
-    requires { place + 1 < length bytes.now }
-    ensures { result ≡ number_at bytes.now place }
+// The number in two bytes at the front, the low one first, and the bytes behind it; none where two bytes are not left.
+fn split_number(bytes: &[u8]) -> Option<(u16, &[u8])>
+    ensures { MatchOption result (length bytes.now < 2) (Numbered bytes.now) }
 {
-    bytes[place] as u16 + 256 * bytes[place + 1] as u16
+    let (number, rest) = bytes.split_first_chunk()?;
+    Some((u16::from_le_bytes(*number), rest))
 }
 
-// A kind 1 record of nine bytes.
-fn emergency_record<'a>(bytes: &[u8]) -> Result<Record<'a>, Refusal>
-    requires { 9 ≤ length bytes.now }
-    ensures said { told_record result ≡ emergency_said bytes.now }
+// The kind and the content of the record at the front; none where it is torn.
+fn kind_and_content(bytes: &[u8]) -> Option<(u16, &[u8])>
+    ensures { MatchOption result (IsTrue (torn bytes.now)) (Whole bytes.now) }
+{
+    let (length, rest) = split_number(bytes)?;
+    split_number(rest.get(..length as usize)?)
+}
+
+// The class and the speed that records begin with.
+fn class_and_from(class: u8, from: u8) -> Result<(Class, Speed), Refusal>
+    ensures { (further : Class → Speed → Told Said) → headed class from further ≡ told_further further result }
+{
+    let class = Class::try_from(class)?;
+    let from = Speed::try_from(from).or(Err(Refusal::Record(RecordFault::Entry)))?;
+    Ok((class, from))
+}
+
+// Whether an emergency record can say so.
+fn is_possible(from: Speed, to: Code, distance: u16) -> bool
+    ensures { result ≡ (lower to (Code.Go from) && metres distance) }
+{
+    to < Code::Go(from) && is_distance(distance)
+}
+
+// What a kind 1 record says by its bytes.
+fn emergency_record<'a>(class: u8, from: u8, to: u8, metres: u16) -> Result<Record<'a>, Refusal>
+    ensures said { told_record result ≡ emergency_entry class from to metres }
     ensures placed { (place : ℕ) → IfOk result (Placed place) }
 {
     let entry = Refusal::Record(RecordFault::Entry);
-    let class = Class::from_number(bytes[4]).ok_or(entry)?;
-    let from = Speed::from_kmh(bytes[5]).ok_or(entry)?;
-    let to = Code::from_byte(bytes[6]).ok_or(entry)?;
-    let metres = number_at(bytes, 7);
-    if !to.is_below(Code::Go(from)) || !is_distance(metres) {
+    let (class, from) = class_and_from(class, from)?;
+    let to = Code::try_from(to).or(Err(entry))?;
+    if !is_possible(from, to, metres) {
         return Err(entry);
     }
     Ok(Record::Emergency {
@@ -46,18 +72,14 @@ fn emergency_record<'a>(bytes: &[u8]) -> Result<Record<'a>, Refusal>
     })
 }
 
-// A kind 2 record of eight bytes.
-fn service_record<'a>(bytes: &[u8]) -> Result<Record<'a>, Refusal>
-    requires { 8 ≤ length bytes.now }
-    ensures said { told_record result ≡ service_said bytes.now }
+// What a kind 2 record says by its bytes.
+fn service_record<'a>(class: u8, from: u8, metres: u16) -> Result<Record<'a>, Refusal>
+    ensures said { told_record result ≡ service_entry class from metres }
     ensures placed { (place : ℕ) → IfOk result (Placed place) }
 {
-    let entry = Refusal::Record(RecordFault::Entry);
-    let class = Class::from_number(bytes[4]).ok_or(entry)?;
-    let from = Speed::from_kmh(bytes[5]).ok_or(entry)?;
-    let metres = number_at(bytes, 6);
+    let (class, from) = class_and_from(class, from)?;
     if !is_distance(metres) {
-        return Err(entry);
+        return Err(Refusal::Record(RecordFault::Entry));
     }
     Ok(Record::Service {
         class,
@@ -72,19 +94,16 @@ fn first_record<'a>(bytes: &'a [u8], place: usize) -> Result<Record<'a>, Refusal
     ensures said { told_record result ≡ decoded bytes.now }
     ensures placed { IfOk result (Placed place) }
 {
-    if bytes.len() < 2 {
-        return Err(Refusal::File(FileFault::Torn));
-    }
-    let length = number_at(bytes, 0) as usize;
-    if length < 2 || length > bytes.len() - 2 {
-        return Err(Refusal::File(FileFault::Torn));
-    }
-    match number_at(bytes, 2) {
-        1 if length == 7 => emergency_record(bytes),
-        2 if length == 6 => service_record(bytes),
-        3 => Ok(Record::Remark {
+    match kind_and_content(bytes).ok_or(Refusal::File(FileFault::Torn))? {
+        (1, [class, from, to, low, high]) => {
+            emergency_record(*class, *from, *to, u16::from_le_bytes([*low, *high]))
+        }
+        (2, [class, from, low, high]) => {
+            service_record(*class, *from, u16::from_le_bytes([*low, *high]))
+        }
+        (3, bytes) => Ok(Record::Remark {
             place: place + 4,
-            bytes: &bytes[4..2 + length],
+            bytes,
         }),
         _ => Err(Refusal::Record(RecordFault::Kind)),
     }
@@ -123,8 +142,7 @@ impl<'a> Reader<'a> {
     pub fn place(&self) -> usize
         ensures { result ≡ self.now.place }
     {
-        let Reader { place, .. } = self;
-        *place
+        self.place
     }
 
     // The next record, or none at the end of the file. A record is refused by 15 where its bytes are torn, by 16 for its kind and
@@ -133,17 +151,11 @@ impl<'a> Reader<'a> {
         ensures hands { Hands self.old.file.now self.old.place result self.new.place }
         ensures same { self.new.file.now ≡ self.old.file.now }
     {
-        let file = self.file;
-        let place = self.place;
-        if place == file.len() {
+        if self.place == self.file.len() {
             return Ok(None);
         }
-        match record_at(file, place) {
-            Ok(item) => {
-                self.place = place + size(item);
-                Ok(Some(item))
-            }
-            Err(refusal) => Err(refusal),
-        }
+        let item = record_at(self.file, self.place)?;
+        self.place += size(item);
+        Ok(Some(item))
     }
 }

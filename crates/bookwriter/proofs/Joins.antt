@@ -1,7 +1,7 @@
 -- Records that are written into a buffer one after the other. Assumes nothing.
 use Rattle.std.proofs.Common.{◌≡◌, ℕ, zero, suc, ◌+◌, ◌<◌, ◌≤◌, Bool, true, false, cond, List, [], ◌∷◌, ◌++◌, map, length, get_or, take, drop, sym, refl, ap, ◌∙◌, subst, arith}
 use Rattle.std.specs.List.{flat_map}
-use Rattle.std.proofs.lemmas.List.{append_assoc, length-append, length-take-le, take-append-drop, take_at, drop_at, drop-drop, take_more, take_all, drop_all, append-nil, flat_map_more}
+use Rattle.std.proofs.lemmas.List.{append_assoc, length-append, length-drop, length-take-le, take-append-drop, take_at, drop_at, drop-drop, take_more, take_all, drop_all, append-nil, flat_map_more}
 use Rattle.codes.specs.declared.speeds.Speed.{Speed}
 use Rattle.codes.specs.declared.speeds.Code.{Code}
 use Rattle.codes.specs.declared.speeds.Code.TheVariants.{Go}
@@ -11,7 +11,8 @@ use Rattle.codes.specs.Refusals.{gives, refuses}
 use Rattle.laws.specs.Books.{Emergencies, Services, answered}
 use Rattle.laws.specs.Questions.{Question, emergency, service}
 use Rattle.bookrecords.specs.Records.{states, spelt, spelling}
-use Rattle.bookwriter.specs.Writing.{stated, bytes_of, asked, emergencies_of, services_of, class_size, wrote, Wrote, WroteClass}
+use Rattle.bookwriter.specs.declared.records.Writer.{Writer}
+use Rattle.bookwriter.specs.Writing.{stated, bytes_of, asked, wrote, Wrote, Puts, HasRoom, Writes}
 
 -- ---- two writes make one
 
@@ -52,10 +53,6 @@ wrote_whole before bytes full done =
 
 -- ---- the bytes of questions
 
--- the questions of a class in writing order
-abbrev pub of_class : Class → List Question
-of_class k = emergencies_of k ++ services_of k
-
 module _ (E : Emergencies) (D : Services) where
   bytes_none : bytes_of E D [] ≡ []
   unfolding bytes_of spelling
@@ -92,24 +89,12 @@ module _ (E : Emergencies) (D : Services) where
     unfolding bytes_of spelling
     service_given is e = is ∙ ap (λ n. spelt (states (service k from) n)) e
 
-  pub class_room : (k : Class) (at room : ℕ) → at + length (bytes_of E D (of_class k)) ≤ room → at + class_size E D k ≤ room
-  class_room k at room l = let parts = bytes_count (emergencies_of k) (services_of k) in omega arith
-
--- the records of a class
-pub class_wrote : {E : Emergencies} {D : Services} {k : Class} {before after : List ℕ} {at next : ℕ} → at ≤ length before → WroteClass E D before at k after next → Wrote before at (bytes_of E D (of_class k)) after next
-class_wrote {E} {D} {k} {before} {after} {at} {next} within class = record {
-  holds =
-      class.holds ∙ wrote_twice before at (bytes_of E D (emergencies_of k)) (bytes_of E D (services_of k)) within
-      ∙ ap (wrote before at) (sym (bytes_append E D (emergencies_of k) (services_of k)));
-  moved = let parts = bytes_count E D (emergencies_of k) (services_of k) in let reached = class.moved in omega arith;
-}
-
 -- ---- a loop that writes the questions f of each of a list
 
--- those of the first i of xs have been written from place at on, up to place p, and there is room for all
-pub record Sofar (E : Emergencies) (D : Services) {X : Type 0} (f : X → List Question) (xs : List X) (before : List ℕ) (at i : ℕ) (mid : List ℕ) (p : ℕ) : Type 0 where
-  pub room : at + length (bytes_of E D (flat_map f xs)) ≤ length before
-  pub wrote : Wrote before at (bytes_of E D (flat_map f (take i xs))) mid p
+-- the writer before has written those of the first i of xs, and there is room for all
+pub record Sofar (E : Emergencies) (D : Services) {X : Type 0} (f : X → List Question) (xs : List X) (before : Writer) (i : ℕ) (mid : Writer) : Type 0 where
+  pub room : HasRoom E D before (flat_map f xs)
+  pub writes : Writes E D before (flat_map f (take i xs)) mid
 
 module _ (E : Emergencies) (D : Services) {X : Type 0} (f : X → List Question) where
   -- the first i, and the next one, are a part of all
@@ -123,25 +108,67 @@ module _ (E : Emergencies) (D : Services) {X : Type 0} (f : X → List Question)
       let all = bytes_count E D (f x) (flat_map f xs) in
       omega arith
 
-module _ {E : Emergencies} {D : Services} {X : Type 0} {f : X → List Question} {xs : List X} {before : List ℕ} {at : ℕ} where
-  pub sofar_none : at + length (bytes_of E D (flat_map f xs)) ≤ length before → Sofar E D f xs before at 0 before at
-  sofar_none room = record { room = room; wrote = subst (λ bs. Wrote before at bs before at) (sym (bytes_none E D)) (wrote_none before at) }
+-- nothing was written
+pub puts_none : (writer : Writer) → Puts writer [] writer
+puts_none writer = record { wrote = wrote_none writer.buffer.now writer.place; same = refl }
 
-  module _ {i : ℕ} {mid : List ℕ} {p : ℕ} (sofar : Sofar E D f xs before at i mid p) where
-    pub sofar_room : (d : X) → i < length xs → length mid ≡ length before → p + length (bytes_of E D (f (get_or xs i d))) ≤ length mid
-    sofar_room d l same = let part = part_within E D f xs i d l in let room = sofar.room in let reached = sofar.wrote.moved in omega arith
+-- a write keeps the length of the buffer
+puts_length : (before after : Writer) (bytes : List ℕ) → before.place + length bytes ≤ length before.buffer.now → Puts before bytes after → length after.buffer.now ≡ length before.buffer.now
+puts_length before after bytes room puts =
+    let at = before.place in
+    let bs = before.buffer.now in
+    let front = length-take-le at bs (omega arith) in
+    let behind = length-drop (length bytes) (drop at bs) in
+    let rest = length-drop at bs in
+    let two = length-append bytes (drop (length bytes) (drop at bs)) in
+    let all = length-append (take at bs) (bytes ++ drop (length bytes) (drop at bs)) in
+    let same = ap length puts.wrote.holds in
+    omega arith
 
-    pub sofar_more : (d : X) → i < length xs → {after : List ℕ} {next : ℕ} → Wrote mid p (bytes_of E D (f (get_or xs i d))) after next → Sofar E D f xs before at (i + 1) after next
-    sofar_more d l {after} {next} more =
-        let some = flat_map f (take i xs) in
-        let one = f (get_or xs i d) in
-        let both : some ++ one ≡ flat_map f (take (i + 1) xs) = flat_map_more f [] (take i xs) (get_or xs i d) ∙ ap (flat_map f) (sym (take_more xs i d l)) in
-        let within : at ≤ length before = let room = sofar.room in omega arith in
-        record {
-          room = sofar.room;
-          wrote = subst (λ bs. Wrote before at bs after next) (sym (bytes_append E D some one) ∙ ap (bytes_of E D) both)
-              (wrote_both before at (bytes_of E D some) (bytes_of E D one) within sofar.wrote more);
-        }
+module _ (E : Emergencies) (D : Services) where
+  pub writes_none : (writer : Writer) → Writes E D writer [] writer
+  writes_none writer = subst (λ bs. Puts writer bs writer) (sym (bytes_none E D)) (puts_none writer)
 
-    pub sofar_all : length xs ≤ i → Wrote before at (bytes_of E D (flat_map f xs)) mid p
-    sofar_all past = subst (λ ys. Wrote before at (bytes_of E D (flat_map f ys)) mid p) (take_all i xs past) sofar.wrote
+  -- what is written first, and then, is written
+  pub writes_both : {before mid after : Writer} (ps qs : List Question) → before.place ≤ length before.buffer.now → Writes E D before ps mid → Writes E D mid qs after → Writes E D before (ps ++ qs) after
+  writes_both {before} {mid} {after} ps qs within first then = record {
+    wrote = subst (λ bs. Wrote before.buffer.now before.place bs after.buffer.now after.place) (sym (bytes_append E D ps qs))
+        (wrote_both before.buffer.now before.place (bytes_of E D ps) (bytes_of E D qs) within first.wrote then.wrote);
+    same = then.same ∙ first.same;
+  }
+
+  -- room for both is room for the first, and then for the second
+  pub room_first : (writer : Writer) (ps qs : List Question) → HasRoom E D writer (ps ++ qs) → HasRoom E D writer ps
+  room_first writer ps qs room = let parts = bytes_count E D ps qs in omega arith
+
+  pub room_then : {before mid : Writer} (ps qs : List Question) → HasRoom E D before (ps ++ qs) → Writes E D before ps mid → HasRoom E D mid qs
+  room_then {before} {mid} ps qs room first =
+      let parts = bytes_count E D ps qs in
+      let kept = puts_length before mid (bytes_of E D ps) (omega arith) first in
+      let moved = first.wrote.moved in
+      omega arith
+
+module _ {E : Emergencies} {D : Services} where
+  module _ {X : Type 0} {f : X → List Question} {xs : List X} {before : Writer} where
+    pub sofar_none : HasRoom E D before (flat_map f xs) → Sofar E D f xs before 0 before
+    sofar_none room = record { room = room; writes = writes_none E D before }
+
+    module _ {i : ℕ} {mid : Writer} (sofar : Sofar E D f xs before i mid) where
+      pub sofar_room : (d : X) → i < length xs → HasRoom E D mid (f (get_or xs i d))
+      sofar_room d l =
+          let part = part_within E D f xs i d l in
+          let room = sofar.room in
+          let moved = sofar.writes.wrote.moved in
+          let kept = puts_length before mid (bytes_of E D (flat_map f (take i xs))) (omega arith) sofar.writes in
+          omega arith
+
+      pub sofar_more : (d : X) → i < length xs → {after : Writer} → Writes E D mid (f (get_or xs i d)) after → Sofar E D f xs before (i + 1) after
+      sofar_more d l {after} more =
+          let some = flat_map f (take i xs) in
+          let one = f (get_or xs i d) in
+          let both : some ++ one ≡ flat_map f (take (i + 1) xs) = flat_map_more f [] (take i xs) (get_or xs i d) ∙ ap (flat_map f) (sym (take_more xs i d l)) in
+          let within : before.place ≤ length before.buffer.now = let room = sofar.room in omega arith in
+          record { room = sofar.room; writes = subst (λ qs. Writes E D before qs after) both (writes_both E D some one within sofar.writes more) }
+
+      pub sofar_all : length xs ≤ i → Writes E D before (flat_map f xs) mid
+      sofar_all past = subst (λ ys. Writes E D before (flat_map f ys) mid) (take_all i xs past) sofar.writes

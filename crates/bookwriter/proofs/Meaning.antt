@@ -12,8 +12,7 @@ use Rattle.laws.proofs.Places.{place_within, question_at, questions_at, question
 use Rattle.bookrecords.specs.Records.{spelling, Possible}
 use Rattle.bookrecords.specs.Files.{same, given, Means}
 use Rattle.bookrecords.proofs.Unique.{same_book}
-use Rattle.bookwriter.specs.Writing.{stated, bytes_of, file_of, asked, row, emergencies_of, services_of, Alone}
-use Rattle.bookwriter.proofs.Joins.{of_class}
+use Rattle.bookwriter.specs.Writing.{stated, bytes_of, file_of, asked, row, emergencies_of, services_of, of_class, Alone}
 
 pub in_writing_order : flat_map of_class classes ≡ questions
 unfolding questions asked row emergencies_of services_of

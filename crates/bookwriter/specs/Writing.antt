@@ -5,13 +5,15 @@
 --     asked k from to       the emergency question, where its to is below its from
 --     row k from            the emergency questions of class k from one speed
 --     emergencies_of k, services_of k    all emergency and all service questions of class k
---     class_size E D k      how many bytes the records of class k take
+--     of_class k            all questions of class k
 --     wrote before at bytes    a buffer in which the bytes were written from place at on
 --     Wrote before at bytes after next    the bytes were written from place at on, and next is the place behind them
---     WroteClass E D before at k after next    so were the records of class k
+--     Puts before bytes after    a writer wrote the bytes behind those before
+--     HasRoom E D writer qs      its buffer has room for the records of the questions qs
+--     Writes E D before qs after    it wrote them
 --     Written before E D r after    the book's file was written into a buffer, or refused by 10
 --     Alone file E D        every book whose file this is has the figures of E and D
-use Rattle.std.specs.Prelude.{◌≡◌, ℕ, ◌+◌, cond, List, [], ◌∷◌, ◌++◌, map, length, take, drop, Ok, Err, Result, ◌≢◌}
+use Rattle.std.specs.Prelude.{◌≡◌, ℕ, ◌+◌, cond, List, [], ◌∷◌, ◌++◌, map, ◌≤◌, length, take, drop, Ok, Err, Result, ◌≢◌}
 use Rattle.std.specs.List.{flat_map}
 use Rattle.codes.specs.declared.speeds.Speed.{Speed}
 use Rattle.codes.specs.declared.speeds.Code.{Code}
@@ -22,6 +24,7 @@ use Rattle.codes.specs.Speeds.{lower, speeds, codes}
 use Rattle.codes.specs.Refusals.{notice}
 use Rattle.laws.specs.Books.{Emergencies, Services}
 use Rattle.laws.specs.Questions.{Question, emergency, service, Asks, figure, questions}
+use Rattle.bookwriter.specs.declared.records.Writer.{Writer}
 use Rattle.bookrecords.specs.Records.{Said, states, spelling}
 use Rattle.bookrecords.specs.Files.{Means}
 
@@ -50,8 +53,9 @@ emergencies_of k = flat_map (row k) speeds
 unfoldable pub services_of : Class → List Question
 services_of k = flat_map (λ from. service k from ∷ []) speeds
 
-abbrev pub class_size : Emergencies → Services → Class → ℕ
-class_size E D k = length (bytes_of E D (emergencies_of k)) + length (bytes_of E D (services_of k))
+-- the questions of a class in writing order
+abbrev pub of_class : Class → List Question
+of_class k = emergencies_of k ++ services_of k
 
 -- all other places are as they were
 abbrev pub wrote : List ℕ → ℕ → List ℕ → List ℕ
@@ -61,10 +65,16 @@ pub record Wrote (before : List ℕ) (at : ℕ) (bytes : List ℕ) (after : List
   pub holds : after ≡ wrote before at bytes
   pub moved : next ≡ at + length bytes
 
--- the emergency records, and behind them the service records
-pub record WroteClass (E : Emergencies) (D : Services) (before : List ℕ) (at : ℕ) (k : Class) (after : List ℕ) (next : ℕ) : Type 0 where
-  pub holds : after ≡ wrote (wrote before at (bytes_of E D (emergencies_of k))) (at + length (bytes_of E D (emergencies_of k))) (bytes_of E D (services_of k))
-  pub moved : next ≡ at + class_size E D k
+-- the same by a writer, into the buffer that it has
+pub record Puts (before : Writer) (bytes : List ℕ) (after : Writer) : Type 0 where
+  pub wrote : Wrote before.buffer.now before.place bytes after.buffer.now after.place
+  pub same : after.buffer.ghost_name ≡ before.buffer.ghost_name
+
+abbrev pub HasRoom : Emergencies → Services → Writer → List Question → Type 0
+HasRoom E D writer qs = writer.place + length (bytes_of E D qs) ≤ length writer.buffer.now
+
+abbrev pub Writes : Emergencies → Services → Writer → List Question → Writer → Type 0
+Writes E D before qs after = Puts before (bytes_of E D qs) after
 
 -- a buffer of another size is left as it was
 abbrev pub Written : List ℕ → Emergencies → Services → Result (Unit {0}) Refusal → List ℕ → Type 0

@@ -2,7 +2,7 @@
 ghost use Rattle.std.specs.Prelude.{◌≡◌, ◌+◌, ◌≤◌, length};
 ghost use Rattle.laws.specs.Questions.{emergency, service};
 ghost use Rattle.bookrecords.specs.Records.{states, spelt};
-ghost use Rattle.bookwriter.specs.Writing.{Wrote};
+ghost use Rattle.bookwriter.specs.Writing.{Puts};
 
 use codes::{Class, Code, Speed};
 
@@ -11,8 +11,7 @@ use codes::{Class, Code, Speed};
 pub(super) fn emergency_record(class: Class, from: Speed, to: Code, metres: u16) -> [u8; 9]
     ensures { result ≡ spelt (states (emergency class from to) metres) }
 {
-    let low = (metres % 256) as u8;
-    let high = (metres / 256) as u8;
+    let [low, high] = metres.to_le_bytes();
     [7, 0, 1, 0, class.number(), from.kmh(), to.byte(), low, high]
 }
 
@@ -20,17 +19,34 @@ pub(super) fn emergency_record(class: Class, from: Speed, to: Code, metres: u16)
 pub(super) fn service_record(class: Class, from: Speed, metres: u16) -> [u8; 8]
     ensures { result ≡ spelt (states (service class from) metres) }
 {
-    let low = (metres % 256) as u8;
-    let high = (metres / 256) as u8;
+    let [low, high] = metres.to_le_bytes();
     [6, 0, 2, 0, class.number(), from.kmh(), low, high]
 }
 
-// Puts a record into the buffer from place `at` on, and answers the place behind it.
-pub(super) fn put(buffer: &mut [u8], at: usize, item: &[u8]) -> usize
-    requires { at + length item.now ≤ length buffer.old }
-    ensures { Wrote buffer.old at item.now buffer.new result }
-{
-    let next = at + item.len();
-    buffer[at..next].copy_from_slice(item);
-    next
+// A buffer that records are written into one after the other, and the place behind the last of them.
+#[derive(Drop)]
+pub(super) struct Writer<'a> {
+    buffer: &'a mut [u8],
+    place: usize,
+}
+
+impl<'a> Writer<'a> {
+    // A writer at the start of a buffer.
+    pub(super) fn new(buffer: &'a mut [u8]) -> Writer<'a>
+        ensures buffer { result.buffer.now ≡ buffer.old }
+        ensures same { result.buffer.ghost_name ≡ buffer.entry.ghost_name }
+        ensures place { result.place ≡ 0 }
+    {
+        Writer { buffer, place: 0 }
+    }
+
+    // Puts a record behind the others.
+    pub(super) fn put(&mut self, item: &[u8])
+        requires { self.old.place + length item.now ≤ length self.old.buffer.now }
+        ensures { Puts self.old item.now self.new }
+    {
+        let next = self.place + item.len();
+        self.buffer[self.place..next].copy_from_slice(item);
+        self.place = next;
+    }
 }

@@ -7,11 +7,11 @@ pub loop-from-init : goal.loop-from-init
 unfolding emergencies_of
 loop-from-init g c = sofar_none c.requires
 
-pub write_row-next-requires : goal.write_row-next-requires
-write_row-next-requires g c = sofar_room c.loop-from.invariant V30 c.loop-from-test.true c.loop-from.auto.buffer
+pub write_row-requires : goal.write_row-requires
+write_row-requires g c = sofar_room c.loop-from.invariant V30 c.loop-from-test.true
 
 pub loop-from-preserved : goal.loop-from-preserved
-loop-from-preserved g c = sofar_more c.loop-from.invariant V30 c.loop-from-test.true c.write_row-next.ensures
+loop-from-preserved g c = sofar_more c.loop-from.invariant V30 c.loop-from-test.true c.write_row.ensures
 
 pub returns : goal.returns
 unfolding emergencies_of

@@ -4,6 +4,4 @@ use Rattle.bookwriter.proofs.Joins.{Sofar}
 use Rattle.bookwriter.proofs.writing.write_emergencies.Given as goal
 
 abbrev pub invariant-loop-from : goal.invariant-loop-from
-invariant-loop-from g l =
-    Sofar (g.B.BrakingBook.emergencies l.book) (g.B.BrakingBook.services l.book) (row l.class) speeds
-    l.initial.buffer l.at l.from-index l.buffer l.next
+invariant-loop-from g l = Sofar (g.B.BrakingBook.emergencies l.book) (g.B.BrakingBook.services l.book) (row l.class) speeds l.initial.writer l.from-index l.writer

@@ -1,6 +1,6 @@
-use Rattle.std.proofs.Common.{length, ap, subst, arith}
-use Rattle.bookwriter.specs.Writing.{Wrote}
-use Rattle.bookwriter.proofs.Joins.{asked_given, asked_refused, wrote_none}
+use Rattle.std.proofs.Common.{length, ap, arith, subst}
+use Rattle.bookwriter.specs.Writing.{Puts}
+use Rattle.bookwriter.proofs.Joins.{asked_given, asked_refused, puts_none}
 use Rattle.bookwriter.proofs.writing.write_emergency.Goals as goal
 
 pub put-requires : goal.put-requires
@@ -14,10 +14,10 @@ pub returns-in-Ok : goal.returns-in-Ok
 returns-in-Ok g c =
     let bytes = asked_given (g.B.BrakingBook.emergencies c.args.book.now) (g.B.BrakingBook.services c.args.book.now) c.args.class c.args.from c.args.to
     c.emergency_record.ensures c.in-Ok.ensures in
-    subst (λ bs. Wrote c.args.buffer.now c.args.at bs c.put.new.buffer c.put.result) bytes c.put.ensures
+    subst (λ bs. Puts c.args.writer.now bs c.put.new.self) bytes c.put.ensures
 
-pub returns-in-Err : goal.returns-in-Err
-returns-in-Err g c =
+pub returns-in_default : goal.returns-in_default
+returns-in_default g c =
     let none = asked_refused (g.B.BrakingBook.emergencies c.args.book.now) (g.B.BrakingBook.services c.args.book.now) c.args.class c.args.from c.args.to
-    c.in-Err.ensures in
-    subst (λ bs. Wrote c.args.buffer.now c.args.at bs c.args.buffer.now c.args.at) none (wrote_none c.args.buffer.now c.args.at)
+    c.in_default.ensures in
+    subst (λ bs. Puts c.args.writer.now bs c.args.writer.now) none (puts_none c.args.writer.now)

@@ -7,11 +7,11 @@ pub loop-to-init : goal.loop-to-init
 unfolding row
 loop-to-init g c = sofar_none c.requires
 
-pub write_emergency-next-requires : goal.write_emergency-next-requires
-write_emergency-next-requires g c = sofar_room c.loop-to.invariant Stop c.loop-to-test.true c.loop-to.auto.buffer
+pub write_emergency-requires : goal.write_emergency-requires
+write_emergency-requires g c = sofar_room c.loop-to.invariant Stop c.loop-to-test.true
 
 pub loop-to-preserved : goal.loop-to-preserved
-loop-to-preserved g c = sofar_more c.loop-to.invariant Stop c.loop-to-test.true c.write_emergency-next.ensures
+loop-to-preserved g c = sofar_more c.loop-to.invariant Stop c.loop-to-test.true c.write_emergency.ensures
 
 pub returns : goal.returns
 unfolding row
