@@ -1,7 +1,8 @@
 -- The words that begin the lines of a script. Assumes nothing.
 --     spelling k        the word of a kind of order
 --     kind_of w         the kind whose word w is, if there is one
-use Rattle.std.specs.Prelude.{ℕ, cond, List, [], ◌∷◌, Some, None, codes, Option}
+use Rattle.std.specs.Prelude.{ℕ, List, [], ◌∷◌, codes, Option}
+use Rattle.std.specs.List.{find}
 use Rattle.std.specs.Str.{bytes_eq}
 use Rattle.script.specs.declared.kinds.Kind.{Kind}
 use Rattle.script.specs.declared.kinds.Kind.TheVariants as kind
@@ -18,10 +19,6 @@ spelling kind.Examine = codes "examine"
 abbrev pub kinds : List Kind
 kinds = kind.Start ∷ kind.Interval ∷ kind.Gradient ∷ kind.Restriction ∷ kind.Mark ∷ kind.WorkOut ∷ kind.Examine ∷ []
 
--- the first of some kinds whose word w is
-unfoldable pub spelt : List ℕ → List Kind → Option Kind
-spelt w [] = None
-spelt w (k ∷ ks) = cond (bytes_eq w (spelling k)) (Some k) (spelt w ks)
-
+-- the first of the kinds whose word w is
 abbrev pub kind_of : List ℕ → Option Kind
-kind_of w = spelt w kinds
+kind_of w = find (λ k. bytes_eq w (spelling k)) kinds

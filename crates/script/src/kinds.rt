@@ -15,13 +15,6 @@ pub enum Kind {
     Examine,
 }
 
-// Whether two words are the same.
-fn is_same(word: &[u8], other: &[u8]) -> bool
-    ensures { result ≡ bytes_eq word.now other.now }
-{
-    word == other
-}
-
 impl Kind {
     // All kinds.
     const ALL: [Kind; 7] = [
@@ -53,18 +46,13 @@ impl Kind {
     fn is_given_by(self, word: &[u8]) -> bool
         ensures { result ≡ bytes_eq word.now (spelling self) }
     {
-        is_same(word, self.word().as_bytes())
+        word == self.word().as_bytes()
     }
 
     // The kind that a word gives, or none.
     pub fn of(word: &[u8]) -> Option<Kind>
         ensures { result ≡ kind_of word.now }
     {
-        for kind in Kind::ALL {
-            if kind.is_given_by(word) {
-                return Some(kind);
-            }
-        }
-        None
+        Kind::ALL.iter().copied().find(|kind| kind.is_given_by(word))
     }
 }

@@ -6,5 +6,5 @@ mod kinds;
 mod orders;
 mod reading;
 
-pub use orders::{Order, Saying};
+pub use orders::Order;
 pub use reading::read_order;

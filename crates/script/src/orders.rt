@@ -41,13 +41,3 @@ pub enum Order {
         approach: u8,
     },
 }
-
-// What a line says.
-#[derive(Clone, Copy)]
-pub enum Saying {
-    // The line has no word.
-    Nothing,
-    Ordered(Order),
-    // The line is not understood.
-    Unclear,
-}

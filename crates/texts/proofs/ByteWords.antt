@@ -24,3 +24,6 @@ module _ (xs : List ℕ) (ws : List (List ℕ)) where
   pub before_all : ws ≡ [] → before xs ws ≡ Some xs
   unfolding bytes_of
   before_all e = ap (before xs) e ∙ ap Some (append-nil xs)
+
+-- what the bytes of the words before and behind one come to
+pub ruleset before_bytes = (before_more, before_stop, before_all)

@@ -1,60 +1,39 @@
--- The front of a text, and the pieces that it is cut into. Assumes nothing.
-use Rattle.std.proofs.Common.{◌≡◌, ℕ, ◌+◌, ◌<◌, ◌≤◌, Bool, true, false, cond, List, [], ◌∷◌, ◌++◌, length, get_or, take, drop, sym, refl, ap, ◌∙◌, append-nil, arith, length-append, take-append-drop}
-use Rattle.std.proofs.lemmas.List.{at_drop_more, at_drop_all}
-use Rattle.texts.specs.Cuts.{front, onto, pieces, filled, ended, words_in, lines_in}
+-- The pieces that a text is cut into, and the front of it. Assumes nothing.
+use Rattle.std.proofs.Common.{◌≡◌, ℕ, ◌+◌, ◌<◌, ◌≤◌, suc, Bool, true, false, cond, not, List, [], ◌∷◌, ◌++◌, length, get_or, take, drop, sym, refl, ap, ◌∙◌, append-nil, arith, take-append-drop, drop-drop, length-drop, length-take, subst}
+use Rattle.std.proofs.lemmas.Grind.{common_steps}
+use Rattle.std.proofs.lemmas.List.Sums.{prefix_len-le-length}
+use Rattle.std.specs.List.{prefix_len, position, position_or_len, before_first, after_first, slice_split, onto_first}
+use Rattle.std.specs.Option.{unwrap_or}
+use Rattle.texts.specs.declared.cuts.Separator.TheVariants.{LineFeed}
+use Rattle.texts.specs.Cuts.{is_blank, separates, skip_blanks, filled, ended, words_in, lines_in}
 
 module _ (p : ℕ → Bool) where
-  front_cons : (b : ℕ) (bs : List ℕ) → front p (b ∷ bs) ≡ cond (p b) [] (b ∷ front p bs)
-  unfolding front
-  front_cons b bs = refl
-
-  front_nil : front p [] ≡ []
-  unfolding front
-  front_nil = refl
-
-  pub front_stop : (bs : List ℕ) (i : ℕ) → i < length bs → p (get_or bs i 0) ≡ true → front p (drop i bs) ≡ []
-  front_stop bs i h e = at_drop_more (front p) bs i 0 h ∙ front_cons _ _ ∙ ap (λ t. cond t [] (get_or bs i 0 ∷ front p (drop (i + 1) bs))) e
-
-  pub front_more : (bs : List ℕ) (i : ℕ) → i < length bs → p (get_or bs i 0) ≡ false → length (front p (drop i bs)) ≡ 1 + length (front p (drop (i + 1) bs))
-  front_more bs i h e = ap length (at_drop_more (front p) bs i 0 h ∙ front_cons _ _ ∙ ap (λ t. cond t [] (get_or bs i 0 ∷ front p (drop (i + 1) bs))) e) ∙ omega arith
-
-  pub front_all : (bs : List ℕ) (i : ℕ) → length bs ≤ i → front p (drop i bs) ≡ []
-  front_all bs i h = at_drop_all (front p) bs i h ∙ front_nil
-
-  pub take_front : (bs : List ℕ) → take (length (front p bs)) bs ≡ front p bs
-  unfolding front
-  take_front [] = refl
-  take_front (b ∷ bs) = go (p b) (take_front bs)
-    where
-      go : (t : Bool) → take (length (front p bs)) bs ≡ front p bs → take (length (cond t [] (b ∷ front p bs))) (b ∷ bs) ≡ cond t [] (b ∷ front p bs)
-      go true e = refl
-      go false e = ap (λ l. b ∷ l) e
-
-  pub front_within : (bs : List ℕ) → length (front p bs) ≤ length bs
-  front_within bs = omega (arith, ap length (sym (take-append-drop (length (front p bs)) bs) ∙ ap (λ l. l ++ drop (length (front p bs)) bs) (take_front bs)) ∙ length-append (front p bs) _)
+  pub position_is : (bs : List ℕ) → unwrap_or (position p bs) (length bs) ≡ position_or_len p bs
+  position_is bs = grind (arith, common_steps, prefix_len-le-length)
 
   -- the pieces behind the first
   abbrev later : List ℕ → List (List ℕ)
   later [] = []
-  later (b ∷ bs) = pieces p bs
+  later (b ∷ bs) = slice_split p bs
 
-  pub pieces_front : (bs : List ℕ) → pieces p bs ≡ front p bs ∷ later (drop (length (front p bs)) bs)
-  unfolding front pieces
+  abbrev left : List ℕ → List ℕ
+  left bs = drop (position_or_len p bs) bs
+
+  pieces_front : (bs : List ℕ) → slice_split p bs ≡ before_first p bs ∷ later (left bs)
   pieces_front [] = refl
   pieces_front (b ∷ bs) = go (p b) (pieces_front bs)
     where
-      go : (t : Bool) → pieces p bs ≡ front p bs ∷ later (drop (length (front p bs)) bs) → cond t ([] ∷ pieces p bs) (onto b (pieces p bs)) ≡ cond t [] (b ∷ front p bs) ∷ later (drop (length (cond t [] (b ∷ front p bs))) (b ∷ bs))
+      go : (t : Bool) → slice_split p bs ≡ before_first p bs ∷ later (left bs) → cond t ([] ∷ slice_split p bs) (onto_first b (slice_split p bs)) ≡ take (cond (not t) (1 + position_or_len p bs) 0) (b ∷ bs) ∷ later (drop (cond (not t) (1 + position_or_len p bs) 0) (b ∷ bs))
       go true e = refl
-      go false e = ap (onto b) e
+      go false e =
+          let one_more : suc (position_or_len p bs) ≡ 1 + position_or_len p bs = omega arith in
+          ap (onto_first b) e ∙ ap (λ n. take n (b ∷ bs) ∷ later (drop n (b ∷ bs))) one_more
 
-  filled_later : (bs : List ℕ) → filled (later (drop (length (front p bs)) bs)) ≡ filled (pieces p (drop (length (front p bs)) bs))
-  unfolding front pieces filled
+  -- the pieces behind the first, where empty pieces do not count
+  filled_later : (bs : List ℕ) → filled (later bs) ≡ filled (slice_split p (drop 1 bs))
+  unfolding filled
   filled_later [] = refl
-  filled_later (b ∷ bs) = go (p b) refl (filled_later bs)
-    where
-      go : (t : Bool) → p b ≡ t → filled (later (drop (length (front p bs)) bs)) ≡ filled (pieces p (drop (length (front p bs)) bs)) → filled (later (drop (length (cond t [] (b ∷ front p bs))) (b ∷ bs))) ≡ filled (pieces p (drop (length (cond t [] (b ∷ front p bs))) (b ∷ bs)))
-      go true e h = rw e refl
-      go false e h = h
+  filled_later (b ∷ bs) = refl
 
   filled_cons : (w : List ℕ) (ws : List (List ℕ)) → 0 < length w → filled (w ∷ ws) ≡ w ∷ filled ws
   unfolding filled
@@ -62,50 +41,84 @@ module _ (p : ℕ → Bool) where
   filled_cons (b ∷ w) ws h = refl
 
   -- a front that is not empty is the first of the filled pieces
-  pub filled_front : (bs : List ℕ) → 0 < length (front p bs) → filled (pieces p bs) ≡ front p bs ∷ filled (pieces p (drop (length (front p bs)) bs))
-  filled_front bs h = ap filled (pieces_front bs) ∙ filled_cons _ _ h ∙ ap (λ l. front p bs ∷ l) (filled_later bs)
-
-  -- a front is empty only of an empty text or before a separator
-  pub empty_front : (bs : List ℕ) → length (front p bs) ≡ 0 → (0 < length bs → p (get_or bs 0 0) ≡ false) → bs ≡ []
-  unfolding front
-  empty_front [] e h = refl
-  empty_front (b ∷ bs) e h = absurd (go (p b) (h (omega arith)) e)
-    where
-      go : (t : Bool) → t ≡ false → length (cond t [] (b ∷ front p bs)) ≡ 0 → ⊥
-      go true f e = let z : ◌≡◌ {A = ℕ} 0 1 = cc in omega arith
-      go false f e = omega arith
-
-  pub filled_skip : (bs : List ℕ) → 0 < length bs → p (get_or bs 0 0) ≡ true → filled (pieces p (drop 1 bs)) ≡ filled (pieces p bs)
-  unfolding pieces filled
-  filled_skip [] h e = absurd (omega arith)
-  filled_skip (b ∷ bs) h e = rw e refl
+  pub filled_front : (bs : List ℕ) → 0 < length (before_first p bs) → filled (slice_split p bs) ≡ before_first p bs ∷ filled (slice_split p (after_first p bs))
+  filled_front bs h = ap filled (pieces_front bs) ∙ filled_cons _ _ h ∙ ap (λ ws. before_first p bs ∷ ws) (filled_later (left bs) ∙ ap (λ l. filled (slice_split p l)) (drop-drop 1 (position_or_len p bs) bs))
 
   ended_last : (w : List ℕ) → 0 < length w → ended (w ∷ []) ≡ w ∷ []
   unfolding ended
   ended_last [] h = absurd (omega arith)
   ended_last (b ∷ w) h = refl
 
-  ended_more : (w : List ℕ) (bs : List ℕ) → ended (w ∷ pieces p bs) ≡ w ∷ ended (pieces p bs)
+  ended_more : (w : List ℕ) (bs : List ℕ) → ended (w ∷ slice_split p bs) ≡ w ∷ ended (slice_split p bs)
   unfolding ended
   ended_more w bs = rw (pieces_front bs) refl
 
   -- a text that is not empty begins with a line, its front, and goes on behind the separator
-  pub ended_front : (bs : List ℕ) → 0 < length bs → ended (pieces p bs) ≡ front p bs ∷ ended (pieces p (drop 1 (drop (length (front p bs)) bs)))
-  unfolding pieces ended
-  ended_front bs h = ap ended (pieces_front bs) ∙ go (drop (length (front p bs)) bs) refl
+  pub ended_front : (bs : List ℕ) → 0 < length bs → ended (slice_split p bs) ≡ before_first p bs ∷ ended (slice_split p (after_first p bs))
+  unfolding ended
+  ended_front bs h = ap ended (pieces_front bs) ∙ go (left bs) refl ∙ ap (λ l. before_first p bs ∷ ended (slice_split p l)) (drop-drop 1 (position_or_len p bs) bs)
     where
-      last : drop (length (front p bs)) bs ≡ [] → bs ≡ front p bs
-      last e = sym (take-append-drop (length (front p bs)) bs) ∙ ap (λ l. take (length (front p bs)) bs ++ l) e ∙ append-nil _ ∙ take_front bs
+      last : left bs ≡ [] → bs ≡ before_first p bs
+      last e = sym (take-append-drop (position_or_len p bs) bs) ∙ ap (λ l. before_first p bs ++ l) e ∙ append-nil _
 
-      go : (left : List ℕ) → drop (length (front p bs)) bs ≡ left → ended (front p bs ∷ later left) ≡ front p bs ∷ ended (pieces p (drop 1 left))
-      go [] e = ended_last (front p bs) (omega (arith, ap length (last e)))
-      go (b ∷ left) e = ended_more (front p bs) left
+      go : (l : List ℕ) → left bs ≡ l → ended (before_first p bs ∷ later l) ≡ before_first p bs ∷ ended (slice_split p (drop 1 l))
+      go [] e = ended_last (before_first p bs) (omega (arith, ap length (last e)))
+      go (b ∷ l) e = ended_more (before_first p bs) l
 
-pub words_none : (bs : List ℕ) → bs ≡ [] → words_in bs ≡ []
-unfolding pieces filled
-words_none bs e = ap words_in e
+pub words_none : (bs : List ℕ) → length bs ≡ 0 → words_in bs ≡ []
+unfolding filled
+words_none [] e = refl
+words_none (b ∷ bs) e = absurd (omega arith)
 
 pub lines_none : (bs : List ℕ) → length bs ≡ 0 → lines_in bs ≡ []
-unfolding pieces ended
+unfolding ended
 lines_none [] e = refl
 lines_none (b ∷ bs) e = absurd (omega arith)
+
+-- blanks at the front of a text make no word
+words_skip : (bs : List ℕ) → words_in (skip_blanks bs) ≡ words_in bs
+unfolding filled
+words_skip [] = refl
+words_skip (b ∷ bs) = go (is_blank b) refl (words_skip bs)
+  where
+    blanks : ℕ
+    blanks = position_or_len (λ b. not (is_blank b)) bs
+
+    go : (t : Bool) → is_blank b ≡ t → words_in (skip_blanks bs) ≡ words_in bs → filled (slice_split is_blank (drop (cond (not (not t)) (1 + position_or_len (λ b. not (is_blank b)) bs) 0) (b ∷ bs))) ≡ filled (cond t ([] ∷ slice_split is_blank bs) (onto_first b (slice_split is_blank bs)))
+    go true h e =
+        let one_more : 1 + position_or_len (λ b. not (is_blank b)) bs ≡ suc (position_or_len (λ b. not (is_blank b)) bs) = omega arith in
+        ap (λ n. filled (slice_split is_blank (drop n (b ∷ bs)))) one_more ∙ e
+    go false h e = rw h refl
+
+pub some_word : (bs : List ℕ) → 0 < length (before_first is_blank (skip_blanks bs)) → words_in bs ≡ before_first is_blank (skip_blanks bs) ∷ words_in (after_first is_blank (skip_blanks bs))
+some_word bs h = sym (words_skip bs) ∙ filled_front is_blank (skip_blanks bs) h
+
+-- what begins with no blank has no empty front
+no_front : (bs : List ℕ) → length (before_first is_blank (skip_blanks bs)) ≡ 0 → length (skip_blanks bs) ≡ 0
+no_front [] e = refl
+no_front (b ∷ bs) e = go (is_blank b) refl (no_front bs) e
+  where
+    go : (t : Bool) → is_blank b ≡ t → (length (before_first is_blank (skip_blanks bs)) ≡ 0 → length (skip_blanks bs) ≡ 0) → length (before_first is_blank (drop (cond (not (not t)) (1 + position_or_len (λ b. not (is_blank b)) bs) 0) (b ∷ bs))) ≡ 0 → length (drop (cond (not (not t)) (1 + position_or_len (λ b. not (is_blank b)) bs) 0) (b ∷ bs)) ≡ 0
+    go true h later e =
+        let one_more : suc (position_or_len (λ b. not (is_blank b)) bs) ≡ 1 + position_or_len (λ b. not (is_blank b)) bs = omega arith in
+        let P : ℕ → Type 0 = λ n. length (before_first is_blank (drop n (b ∷ bs))) ≡ 0 → length (drop n (b ∷ bs)) ≡ 0 in
+        subst P one_more later e
+    go false h later e =
+        let same : length (take (cond (not false) (1 + position_or_len is_blank bs) 0) (b ∷ bs)) ≡ 0 = subst (λ t. length (take (cond (not t) (1 + position_or_len is_blank bs) 0) (b ∷ bs)) ≡ 0) h e in
+        absurd (omega (arith, length-take (1 + position_or_len is_blank bs) (b ∷ bs), same))
+
+pub no_word : (bs text word rest : List ℕ) → text ≡ skip_blanks bs → word ≡ before_first is_blank text → rest ≡ after_first is_blank text → length word ≡ 0 → (words_in bs ≡ []) × (words_in rest ≡ [])
+no_word bs text word rest t w r e =
+    let no_text : length text ≡ 0 = ap length t ∙ no_front bs (sym (ap length w ∙ ap (λ l. length (before_first is_blank l)) t) ∙ e) in
+    (sym (words_skip bs) ∙ ap words_in (sym t) ∙ words_none text no_text, words_none rest (ap length r ∙ omega (arith, no_text, length-drop (position_or_len is_blank text + 1) text)))
+
+-- the front of a text is within the text, and as long as the place of the first separator
+pub ruleset fronts = (position_is, prefix_len-le-length)
+
+pub some_line : (bs : List ℕ) → 0 < length bs → lines_in bs ≡ before_first (separates LineFeed) bs ∷ lines_in (after_first (separates LineFeed) bs)
+some_line = ended_front (separates LineFeed)
+
+-- what is handed out, and what is left
+pub ruleset next_line = (lines_none, some_line)
+
+pub ruleset next_word = (some_word, no_word)

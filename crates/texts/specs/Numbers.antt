@@ -1,19 +1,20 @@
 -- Which number a word means. Assumes nothing.
+--     Reader X          how a word is read as a value of X, or as none
 --     numeral w         the number that a word of decimal digits writes; none where the word is empty or has another byte
 --     upto limit w      that number, where it is at most the limit
 --     signed_of w       the number that digits, or a minus and digits, write, where it is -2^31 to 2^31 - 1
-use Rattle.std.specs.Prelude.{ℕ, ◌+◌, ◌-◌, ◌*◌, ◌^◌, cond, List, [], ◌∷◌, ℤ, pos, neg_ℤ, Some, None, Option, ◌==◌, nat_le}
+--     IsNoNumber w      the word writes no number of either kind
+use Rattle.std.specs.Prelude.{◌≡◌, ℕ, ◌-◌, ◌^◌, cond, List, [], ◌∷◌, ℤ, pos, neg_ℤ, Some, None, Option, ◌==◌, nat_le}
 use Rattle.std.specs.Option.{option_map}
-use Rattle.std.specs.Char.{is_ascii_digit}
+use Rattle.std.specs.Str.{all_ascii_digits}
+use Rattle.std.specs.Str.Parse.{digits_value}
 
--- the number that the digits bs write behind the number n
-unfoldable pub digits_after : ℕ → List ℕ → Option ℕ
-digits_after n [] = Some n
-digits_after n (b ∷ bs) = cond (is_ascii_digit b) (digits_after (10 * n + (b - 48)) bs) None
+abbrev pub Reader : Type 0 → Type 0
+Reader X = List ℕ → Option X
 
-abbrev pub numeral : List ℕ → Option ℕ
+unfoldable pub numeral : List ℕ → Option ℕ
 numeral [] = None
-numeral (b ∷ bs) = digits_after 0 (b ∷ bs)
+numeral (b ∷ bs) = cond (all_ascii_digits (b ∷ bs)) (Some (digits_value 10 (b ∷ bs))) None
 
 abbrev pub held : ℕ → Option ℕ → Option ℕ
 held limit None = None
@@ -26,3 +27,7 @@ upto limit w = held limit (numeral w)
 abbrev pub signed_of : List ℕ → Option ℤ
 signed_of [] = None
 signed_of (b ∷ bs) = cond (b == 45) (option_map (λ n. neg_ℤ (pos n)) (upto (2 ^ 31) bs)) (option_map pos (upto (2 ^ 31 - 1) (b ∷ bs)))
+
+pub record IsNoNumber (w : List ℕ) : Type 0 where
+  pub digits : numeral w ≡ None
+  pub signed : signed_of w ≡ None

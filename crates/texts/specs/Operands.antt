@@ -4,16 +4,15 @@
 --     is_none ws           whether there is no word
 --     Takes f ws r ws'     r is what f reads of the first word of ws, and ws' are the words behind it
 --     bytes_of ws          the bytes that some words write, one each; none where a word writes no byte
---     Fills ws all bs      bs are the bytes that ws write, and all is true; or ws do not write bytes, and bs is empty
---     one, two, three      what a maker gives of just so many words, each read by a reader of its own; none where a word
---                          cannot be read, or where there are more or fewer words
-use Rattle.std.specs.Prelude.{◌≡◌, ℕ, Bool, true, false, cond, List, [], ◌∷◌, Some, None, Option}
+--     Fills ws r bs        r is `Ok` and bs are the bytes that ws write; or r says that the line is unclear and ws do not write bytes;
+--                          or r says that memory failed
+--     one, two, three      what readers read of just so many words, one each; none where a word cannot be read, or where there are
+--                          more or fewer words
+use Rattle.std.specs.Prelude.{◌≡◌, ℕ, Bool, true, false, cond, List, [], ◌∷◌, Some, None, Option, Ok, Err, Result, ⊤}
 use Rattle.std.specs.Option.{option_map}
-use Rattle.texts.specs.Numbers.{upto}
-
--- how a word is read as a value
-abbrev pub Reader : Type 0 → Type 0
-Reader X = List ℕ → Option X
+use Rattle.texts.specs.declared.unread.Unread.{Unread}
+use Rattle.texts.specs.declared.unread.Unread.TheVariants.{Unclear, Memory}
+use Rattle.texts.specs.Numbers.{Reader, upto}
 
 abbrev pub of_first : {X : Type 0} → Reader X → List (List ℕ) → Option X
 of_first f [] = None
@@ -39,19 +38,20 @@ onward (Some x) k = k x
 abbrev pub last : {X : Type 0} → X → List (List ℕ) → Option X
 last x ws = cond (is_none ws) (Some x) None
 
-abbrev pub one : {A X : Type 0} → Reader A → (A → X) → List (List ℕ) → Option X
-one f make ws = onward (of_first f ws) (λ a. last (make a) (behind ws))
+abbrev pub one : {A : Type 0} → Reader A → List (List ℕ) → Option A
+one f ws = onward (of_first f ws) (λ a. last a (behind ws))
 
-abbrev pub two : {A B X : Type 0} → Reader A → Reader B → (A → B → X) → List (List ℕ) → Option X
-two f g make ws = onward (of_first f ws) (λ a. one g (make a) (behind ws))
+abbrev pub two : {A B : Type 0} → Reader A → Reader B → List (List ℕ) → Option (A × B)
+two f g ws = onward (of_first f ws) (λ a. option_map (λ b. (a, b)) (one g (behind ws)))
 
-abbrev pub three : {A B C X : Type 0} → Reader A → Reader B → Reader C → (A → B → C → X) → List (List ℕ) → Option X
-three f g h make ws = onward (of_first f ws) (λ a. two g h (make a) (behind ws))
+abbrev pub three : {A B C : Type 0} → Reader A → Reader B → Reader C → List (List ℕ) → Option (A × B × C)
+three f g h ws = onward (of_first f ws) (λ a. option_map (λ bc. (a, bc.0, bc.1)) (two g h (behind ws)))
 
 unfoldable pub bytes_of : List (List ℕ) → Option (List ℕ)
 bytes_of [] = Some []
 bytes_of (w ∷ ws) = onward (upto 255 w) (λ b. option_map (λ bs. b ∷ bs) (bytes_of ws))
 
-abbrev pub Fills : List (List ℕ) → Bool → List ℕ → Type 0
-Fills ws true bs = bytes_of ws ≡ Some bs
-Fills ws false bs = (bytes_of ws ≡ None) × (bs ≡ [])
+abbrev pub Fills : List (List ℕ) → Result ⊤ Unread → List ℕ → Type 0
+Fills ws (Ok done) bs = bytes_of ws ≡ Some bs
+Fills ws (Err Unclear) bs = bytes_of ws ≡ None
+Fills ws (Err (Memory error)) bs = ⊤

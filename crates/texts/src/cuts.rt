@@ -1,6 +1,7 @@
-// Where a text is cut: separators, and the bytes before the first of them.
-ghost use Rattle.std.specs.Prelude.{◌≡◌, length, drop};
-ghost use Rattle.texts.specs.Cuts.{separates, front};
+// Where a text is cut: separators, and what stands before and after the first of them.
+ghost use Rattle.std.specs.Prelude.{◌≡◌, position};
+ghost use Rattle.std.specs.List.{before_first, after_first};
+ghost use Rattle.texts.specs.Cuts.{separates};
 
 // What ends a piece of text.
 #[derive(Clone, Copy)]
@@ -26,33 +27,21 @@ impl Separator {
     }
 }
 
-// How many bytes stand before the first separator, or in all where there is none.
-fn front_len(bytes: &[u8], separator: Separator) -> usize
-    ensures { result ≡ length (front (separates separator) bytes.now) }
+// Where the first separator stands, or none where there is no separator.
+fn place_of(bytes: &[u8], separator: Separator) -> Option<usize>
+    ensures { result ≡ position (separates separator) bytes.now }
 {
-    for (place, byte) in bytes.iter().enumerate() {
-        if separator.is(*byte) {
-            return place;
-        }
-    }
-    bytes.len()
+    bytes.iter().position(|byte| separator.is(*byte))
 }
 
-// Cuts a text before its first separator, or at its end where there is none.
-#[tactic(auto, using(crate::proofs::Fronts::front_within, crate::proofs::Fronts::take_front))]
+// Cuts a text at its first separator, which is in neither part, or at its end where there is none.
+#[tactic(auto, using(crate::proofs::Fronts::fronts))]
 pub fn split_front(bytes: &[u8], separator: Separator) -> (&[u8], &[u8])
-    ensures front { result.0.now ≡ front (separates separator) bytes.now }
-    ensures rest { result.1.now ≡ drop (length (front (separates separator) bytes.now)) bytes.now }
+    ensures front { result.0.now ≡ before_first (separates separator) bytes.now }
+    ensures rest { result.1.now ≡ after_first (separates separator) bytes.now }
 {
-    bytes.split_at(front_len(bytes, separator))
-}
-
-// What follows the first byte; nothing where there is none.
-pub fn without_first(bytes: &[u8]) -> &[u8]
-    ensures { result.now ≡ drop 1 bytes.now }
-{
-    if bytes.is_empty() {
-        return bytes;
+    match place_of(bytes, separator) {
+        Some(place) => (&bytes[..place], &bytes[place + 1..]),
+        None => (bytes, b""),
     }
-    &bytes[1..]
 }

@@ -6,5 +6,8 @@ mod cuts;
 mod numbers;
 mod operands;
 mod readers;
+mod unread;
 
+pub use numbers::Number;
 pub use readers::{Lines, Words};
+pub use unread::Unread;

@@ -1,55 +1,68 @@
 // The numbers that words write.
-ghost use Rattle.std.specs.Prelude.{◌≡◌, ◌^◌, ◌≤◌, pos, neg_ℤ, IfSome};
-ghost use Rattle.texts.specs.Numbers.{upto, signed_of};
+ghost use Rattle.std.specs.Prelude.{◌≡◌, ◌≢◌, ◌-◌, ◌^◌, slice_index, IfSome, IfNone};
+ghost use Rattle.texts.specs.Numbers.{Reader, upto, signed_of, IsNoNumber};
 
-use super::cuts::without_first;
+use std::str;
 
-// The number that a word of decimal digits writes, leading zeros or not; none where the word is empty, has another byte, or writes
-// a number above the limit.
-#[tactic(auto, using(crate::proofs::Values::digits))]
-pub fn number(word: &[u8], limit: u32) -> Option<u32>
-    ensures value { result ≡ upto limit word.now }
-    ensures bound { IfSome result (λ n. n ≤ limit) }
-{
-    if word.is_empty() {
-        return None;
-    }
-    let mut value = 0u64;
-    for byte in word {
-        if !byte.is_ascii_digit() {
-            return None;
-        }
-        value = 10 * value + (*byte - b'0') as u64;
-        if value > limit as u64 {
-            return None;
-        }
-    }
-    Some(value as u32)
+// A number as a place in an order holds it.
+pub trait Number: Copy {
+    // The number that a word writes; none where the word writes none that the place can hold.
+    ghost reads: { Reader Self };
+
+    // Reads a word.
+    fn read(word: &[u8]) -> Option<Self>
+        ensures { result ≡ reads word.now };
 }
 
-// The number below 0 of a magnitude of up to 2^31.
-fn negated(magnitude: u32) -> i32
-    requires { magnitude ≤ 2 ^ 31 }
-    ensures { result ≡ neg_ℤ (pos magnitude) }
+// The word as a text; none where it begins with a plus or is no text, and so writes no number.
+#[tactic(auto, using(crate::proofs::Values::numbers))]
+fn unplussed(word: &[u8]) -> Option<&str>
+    ensures text { IfSome result (λ text. text.now ≡ word.now) }
+    ensures no_plus { IfSome result (λ text. slice_index word.now 0 ≢ 43) }
+    ensures none { IfNone result (IsNoNumber word.now) }
 {
-    (-(magnitude as i64)) as i32
-}
-
-// The number that a word writes, digits or a minus and digits; none where it is no such word or not -2^31 to 2^31 - 1.
-pub fn signed_number(word: &[u8]) -> Option<i32>
-    ensures { result ≡ signed_of word.now }
-{
-    if word.is_empty() {
+    if word.first() == Some(&b'+') {
         return None;
     }
-    if word[0] == b'-' {
-        return match number(without_first(word), 2_147_483_648) {
-            Some(magnitude) => Some(negated(magnitude)),
-            None => None,
-        };
+    str::from_utf8(word).ok()
+}
+
+// Digits, leading zeros or not, up to 255.
+impl Number for u8 {
+    ghost reads = { upto 255 };
+
+    #[tactic(auto, using(crate::proofs::Values::numbers))]
+    fn read(word: &[u8]) -> Option<u8> {
+        unplussed(word)?.parse::<u8>().ok()
     }
-    match number(word, 2_147_483_647) {
-        Some(value) => Some(value as i32),
-        None => None,
+}
+
+// Digits, leading zeros or not, up to 65,535.
+impl Number for u16 {
+    ghost reads = { upto 65535 };
+
+    #[tactic(auto, using(crate::proofs::Values::numbers))]
+    fn read(word: &[u8]) -> Option<u16> {
+        unplussed(word)?.parse::<u16>().ok()
+    }
+}
+
+// Digits, leading zeros or not, up to 2^32 - 1.
+impl Number for u32 {
+    ghost reads = { upto (2 ^ 32 - 1) };
+
+    #[tactic(auto, using(crate::proofs::Values::numbers))]
+    fn read(word: &[u8]) -> Option<u32> {
+        unplussed(word)?.parse::<u32>().ok()
+    }
+}
+
+// Digits, or a minus and digits, from -2^31 to 2^31 - 1.
+impl Number for i32 {
+    ghost reads = { signed_of };
+
+    #[tactic(auto, using(crate::proofs::Values::numbers))]
+    fn read(word: &[u8]) -> Option<i32> {
+        unplussed(word)?.parse::<i32>().ok()
     }
 }

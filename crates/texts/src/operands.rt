@@ -1,77 +1,19 @@
 // The numbers that stand behind the word of an order.
-ghost use Rattle.std.specs.Prelude.{◌≡◌, ◌-◌, ◌^◌, [], IfOk, if◌then◌else◌, Some, None};
+ghost use Rattle.std.specs.Prelude.{◌≡◌, [], OnErr};
 ghost use Rattle.texts.specs.Cuts.{words_in};
-ghost use Rattle.texts.specs.Numbers.{upto, signed_of};
-ghost use Rattle.texts.specs.Operands.{Takes, Fills, bytes_of, is_none};
+ghost use Rattle.texts.specs.Operands.{Takes, Fills, one, two, three, is_none};
 
-use super::numbers::{number, signed_number};
+use super::numbers::Number;
 use super::readers::Words;
+use super::unread::Unread;
 use std::alloc::AllocError;
 
 impl<'a> Words<'a> {
-    // The next word as a number of up to 2^32 - 1: a position or a length.
-    pub fn metres(&mut self) -> Option<u32>
-        ensures { Takes (upto (2 ^ 32 - 1)) (words_in self.old.rest.now) result (words_in self.new.rest.now) }
+    // The next word as a number.
+    pub fn number<A: Number>(&mut self) -> Option<A>
+        ensures { Takes A.Number.reads (words_in self.old.rest.now) result (words_in self.new.rest.now) }
     {
-        let word = self.next()?;
-        number(word, u32::MAX)
-    }
-
-    // The next word as the number of an interval or a mark, up to 65,535.
-    pub fn number(&mut self) -> Option<u16>
-        ensures { Takes (upto 65535) (words_in self.old.rest.now) result (words_in self.new.rest.now) }
-    {
-        let word = self.next()?;
-        match number(word, 65_535) {
-            Some(value) => Some(value as u16),
-            None => None,
-        }
-    }
-
-    // The next word as a byte: a code.
-    pub fn byte(&mut self) -> Option<u8>
-        ensures { Takes (upto 255) (words_in self.old.rest.now) result (words_in self.new.rest.now) }
-    {
-        let word = self.next()?;
-        match number(word, 255) {
-            Some(value) => Some(value as u8),
-            None => None,
-        }
-    }
-
-    // The next word as a faldtal in tenths of a permille, which alone may be below 0.
-    pub fn faldtal(&mut self) -> Option<i32>
-        ensures { Takes signed_of (words_in self.old.rest.now) result (words_in self.new.rest.now) }
-    {
-        let word = self.next()?;
-        signed_number(word)
-    }
-
-    // Appends the words that are left to an empty buffer, a byte each, up to the first that is no byte; answers whether each is one.
-    fn push_bytes(&mut self, buffer: &mut Vec<u8>) -> Result<bool, AllocError>
-        requires { buffer.old.items ≡ [] }
-        ensures { IfOk result (λ all. bytes_of (words_in self.old.rest.now) ≡ (if all then Some buffer.new.items else None)) }
-    {
-        while let Some(word) = self.next() {
-            let Some(value) = number(word, 255) else {
-                return Ok(false);
-            };
-            buffer.push(value as u8)?;
-        }
-        Ok(true)
-    }
-
-    // Writes the words that are left into the buffer, a byte each, and answers whether each of them is a byte; the buffer is empty
-    // where one is not. Where memory fails, nothing is said of the buffer.
-    pub fn bytes(&mut self, buffer: &mut Vec<u8>) -> Result<bool, AllocError>
-        ensures { IfOk result (λ all. Fills (words_in self.old.rest.now) all buffer.new.items) }
-    {
-        buffer.clear();
-        if self.push_bytes(buffer)? {
-            return Ok(true);
-        }
-        buffer.clear();
-        Ok(false)
+        A::read(self.next()?)
     }
 
     // Whether no word is left.
@@ -79,5 +21,60 @@ impl<'a> Words<'a> {
         ensures { result ≡ is_none (words_in self.old.rest.now) }
     {
         self.next().is_none()
+    }
+
+    // The number of the one word that is left; none where it writes none, or where none or more than one is left.
+    pub fn one<A: Number>(&mut self) -> Option<A>
+        ensures { result ≡ one A.Number.reads (words_in self.old.rest.now) }
+    {
+        let last = self.number()?;
+        self.is_ended().then_some(last)
+    }
+
+    // The numbers of the two words that are left; none where one of them writes none, or where fewer or more are left.
+    pub fn two<A: Number, B: Number>(&mut self) -> Option<(A, B)>
+        ensures { result ≡ two A.Number.reads B.Number.reads (words_in self.old.rest.now) }
+    {
+        let first = self.number()?;
+        let last = self.one()?;
+        Some((first, last))
+    }
+
+    // The numbers of the three words that are left; none where one of them writes none, or where fewer or more are left.
+    pub fn three<A: Number, B: Number, C: Number>(&mut self) -> Option<(A, B, C)>
+        ensures { result ≡ three A.Number.reads B.Number.reads C.Number.reads (words_in self.old.rest.now) }
+    {
+        let first = self.number()?;
+        let (second, last) = self.two()?;
+        Some((first, second, last))
+    }
+
+    // Appends the words that are left to an empty buffer, a byte each, up to the first that is no byte.
+    #[tactic(auto, using(crate::proofs::ByteWords::before_bytes))]
+    fn push_bytes(&mut self, buffer: &mut Vec<u8>) -> Result<(), Unread>
+        requires { buffer.old.items ≡ [] }
+        ensures { Fills (words_in self.old.rest.now) result buffer.new.items }
+    {
+        for word in self {
+            let Some(byte) = u8::read(word) else {
+                return Err(Unread::Unclear);
+            };
+            buffer.push(byte).map_err(AllocError::from)?;
+        }
+        Ok(())
+    }
+
+    // Writes the words that are left into the buffer, a byte each; unclear where one of them is no byte. The buffer is empty where
+    // one is not, or where memory fails.
+    pub fn bytes(&mut self, buffer: &mut Vec<u8>) -> Result<(), Unread>
+        ensures filled { Fills (words_in self.old.rest.now) result buffer.new.items }
+        ensures emptied { OnErr result (buffer.new.items ≡ []) }
+    {
+        buffer.clear();
+        let filled = self.push_bytes(buffer);
+        if filled.is_err() {
+            buffer.clear();
+        }
+        filled
     }
 }

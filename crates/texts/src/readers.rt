@@ -1,8 +1,9 @@
 // The lines of a script and the words of a line, handed out one by one.
-ghost use Rattle.std.specs.Prelude.{◌≡◌, ◌<◌, false, [], ◌∷◌, length, slice_index};
-ghost use Rattle.texts.specs.Cuts.{is_blank, words_in, words_of, lines_in, Hands};
+ghost use Rattle.std.specs.Prelude.{◌≡◌, not, position};
+ghost use Rattle.std.specs.Iterator.{YieldsFirstRef, item_count};
+ghost use Rattle.texts.specs.Cuts.{is_blank, skip_blanks, words_in, words_of, lines_in};
 
-use super::cuts::{Separator, split_front, without_first};
+use super::cuts::{Separator, split_front};
 
 // The lines of a script that are still to come.
 #[derive(Drop)]
@@ -16,14 +17,6 @@ pub struct Words<'a> {
     pub rest: &'a [u8],
 }
 
-// The first line of a text, without its line feed, and what follows it.
-fn first_line(text: &[u8]) -> (&[u8], &[u8])
-    ensures { 0 < length text.now → lines_in text.now ≡ result.0.now ∷ lines_in result.1.now }
-{
-    let (line, rest) = split_front(text, Separator::LineFeed);
-    (line, without_first(rest))
-}
-
 impl<'a> Lines<'a> {
     // All lines of a text. A line feed ends a line, and a last line without one counts.
     pub fn of(text: &'a [u8]) -> Lines<'a>
@@ -31,39 +24,43 @@ impl<'a> Lines<'a> {
     {
         Lines { rest: text }
     }
+}
 
-    // The next line, without its line feed, or none at the end of the text.
-    pub fn next(&mut self) -> Option<&'a [u8]>
-        ensures { Hands (lines_in self.old.rest.now) result (lines_in self.new.rest.now) }
-    {
-        let text = self.rest;
-        if text.is_empty() {
+// The lines come in their order, each without its line feed.
+impl<'a> Iterator for Lines<'a> {
+    type Item = &'a [u8];
+
+    ghost next_gives = { YieldsFirstRef (λ lines. lines_in lines.rest.now) };
+
+    ghost remaining = { item_count (λ lines. lines_in lines.rest.now) };
+
+    #[tactic(auto, using(crate::proofs::Fronts::next_line))]
+    fn next(&mut self) -> Option<&'a [u8]> {
+        if self.rest.is_empty() {
             return None;
         }
-        let (line, rest) = first_line(text);
+        let (line, rest) = split_front(self.rest, Separator::LineFeed);
         self.rest = rest;
         Some(line)
     }
 }
 
-// The text from its first byte on that is not blank.
-fn skip_blanks(text: &[u8]) -> &[u8]
-    ensures words { words_in result.now ≡ words_in text.now }
-    ensures starts { 0 < length result.now → is_blank (slice_index result.now 0) ≡ false }
+// Where the first byte stands that is not blank, or none where all are.
+fn first_filled(text: &[u8]) -> Option<usize>
+    ensures { result ≡ position (λ byte. not (is_blank byte)) text.now }
 {
-    let mut rest = text;
-    while !rest.is_empty() && Separator::Blank.is(rest[0]) {
-        rest = without_first(rest);
-    }
-    rest
+    text.iter().position(|byte| !Separator::Blank.is(*byte))
 }
 
-// The first word of a text, empty where there is none, and what follows it.
-fn first_word(text: &[u8]) -> (&[u8], &[u8])
-    ensures some { 0 < length result.0.now → words_in text.now ≡ result.0.now ∷ words_in result.1.now }
-    ensures none { length result.0.now ≡ 0 → (words_in text.now ≡ []) × (words_in result.1.now ≡ []) }
+// The text from its first byte on that is not blank.
+#[tactic(auto, using(crate::proofs::Fronts::fronts))]
+fn skip_blanks(text: &[u8]) -> &[u8]
+    ensures { result.now ≡ skip_blanks text.now }
 {
-    split_front(skip_blanks(text), Separator::Blank)
+    match first_filled(text) {
+        Some(place) => &text[place..],
+        None => b"",
+    }
 }
 
 impl<'a> Words<'a> {
@@ -74,12 +71,19 @@ impl<'a> Words<'a> {
         let (rest, _) = split_front(line, Separator::Hash);
         Words { rest }
     }
+}
 
-    // The next word, or none at the end of the line.
-    pub fn next(&mut self) -> Option<&'a [u8]>
-        ensures { Hands (words_in self.old.rest.now) result (words_in self.new.rest.now) }
-    {
-        let (word, rest) = first_word(self.rest);
+// The words come in their order.
+impl<'a> Iterator for Words<'a> {
+    type Item = &'a [u8];
+
+    ghost next_gives = { YieldsFirstRef (λ words. words_in words.rest.now) };
+
+    ghost remaining = { item_count (λ words. words_in words.rest.now) };
+
+    #[tactic(auto, using(crate::proofs::Fronts::next_word))]
+    fn next(&mut self) -> Option<&'a [u8]> {
+        let (word, rest) = split_front(skip_blanks(self.rest), Separator::Blank);
         self.rest = rest;
         if word.is_empty() {
             return None;
