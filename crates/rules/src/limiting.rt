@@ -11,8 +11,8 @@ ghost use Rattle.rules.specs.Limits.{Served, Stopped, Placed, At, Caps, Within, 
 use super::braked::{highest_down, highest_emergency_stop, highest_service_stop};
 use super::lines::Line;
 use super::places::{Limits, Place};
-use super::restricted::{ahead_limit, class_from, touching_limit};
-use super::searching::{SpeedTest, highest_passing};
+use super::restricted::{ahead_limit, class_from, lower_of, touching_limit};
+use super::searching::SpeedTest;
 use books::BrakingBook;
 use codes::{Class, Code, Speed};
 use ground::Entry;
@@ -55,24 +55,22 @@ pub fn limits_at<B: BrakingBook>(line: &Line<'_>, place: &Place, book: &B) -> Li
     placed_limits(line, place, book)
 }
 
+// The highest code that obeys the rules 1 to 4.
+pub fn highest_code(limits: &Limits) -> Code
+    ensures { UpTo (Within limits.now) result }
+{
+    let by_restrictions = lower_of(limits.touching, limits.ahead);
+    let by_mark = lower_of(limits.service, limits.stopping);
+    lower_of(by_restrictions, by_mark)
+}
+
 // A speed passes if it is above none of the four.
 impl SpeedTest for Limits {
     ghost passed = { within };
 
     fn passes(&self, speed: Speed) -> bool {
-        let code = Code::Go(speed);
-        if self.touching.is_below(code) || self.ahead.is_below(code) {
-            return false;
-        }
-        !self.service.is_below(code) && !self.stopping.is_below(code)
+        !(highest_code(self) < Code::Go(speed))
     }
-}
-
-// The highest code that obeys the rules 1 to 4.
-pub fn highest_code(limits: &Limits) -> Code
-    ensures { UpTo (Within limits.now) result }
-{
-    highest_passing(limits)
 }
 
 // The highest code by rule 5 of an interval that ends at `end`, before one that ends at `next_end` and has the code `next`.
