@@ -1,5 +1,7 @@
 // The highest codes of an interval by each of the rules 1 to 4, by all four, and by rule 5.
-ghost use Rattle.std.specs.Prelude.{ℕ, ◌-◌};
+ghost use Rattle.std.specs.Prelude.{◌≡◌, ℕ, ◌-◌};
+ghost use Rattle.codes.specs.Speeds.{lower};
+ghost use Rattle.codes.specs.declared.speeds.Code.TheVariants.{Go};
 ghost use Rattle.ground.specs.Ground.{stretch_value};
 ghost use Rattle.ground.specs.Kinds.{steepness};
 ghost use Rattle.rules.specs.Tracks.{Track, Mark};
@@ -64,12 +66,20 @@ pub fn highest_code(limits: &Limits) -> Code
     lower_of(by_restrictions, by_mark)
 }
 
+// Whether a speed is above a limit.
+fn is_above(speed: Speed, limit: Code) -> bool
+    ensures { result ≡ lower limit (Go speed) }
+{
+    limit < Code::Go(speed)
+}
+
 // A speed passes if it is above none of the four.
 impl SpeedTest for Limits {
     ghost passed = { within };
 
+    #[tactic(auto, using(crate::proofs::Limited::within_top))]
     fn passes(&self, speed: Speed) -> bool {
-        !(highest_code(self) < Code::Go(speed))
+        !is_above(speed, highest_code(self))
     }
 }
 
