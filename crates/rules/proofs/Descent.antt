@@ -1,45 +1,52 @@
--- What a descent over the nine speeds shows, from the places that were passed over. Assumes nothing.
-use Rattle.std.proofs.Common.{◌≡◌, ℕ, zero, suc, ◌-◌, ◌<◌, ◌≤◌, Bool, false, get_or, refl, subst, arith}
-use native.Mathlib.Decide.{ℕ_discrete}
+-- What a search over the nine speeds, from the highest down, shows. Assumes nothing.
+use Rattle.std.proofs.Common.{◌≡◌, ℕ, ◌<◌, Bool, true, false, cond, ◌⊎◌, reverse, Some, None, Option, refl, sym, ap, ◌∙◌, subst, ⊎_elim, arith}
+use Rattle.std.specs.List.{find}
+use Rattle.std.specs.Option.{option_map_or, MatchOption}
 use Rattle.codes.specs.declared.speeds.Speed.{Speed}
-use Rattle.codes.specs.declared.speeds.Speed.TheVariants.{V30}
+use Rattle.codes.specs.declared.speeds.Speed.TheVariants.{V30, V40, V50, V60, V70, V80, V90, V100, V120}
+use Rattle.codes.specs.declared.speeds.Code.{Code}
+use Rattle.codes.specs.declared.speeds.Code.TheVariants.{Stop, Go}
 use Rattle.codes.specs.Speeds.{kmh, speeds}
-use Rattle.laws.specs.Questions.{column}
+use Rattle.rules.specs.Searching.{Top, highest}
 
-placed : (v : Speed) → (column v < 9) × (get_or speeds (column v) V30 ≡ v)
-placed v = grind arith
+module _ (test : Speed → Bool) where
+  -- each speed above so many km/h fails
+  abbrev Failed : ℕ → Type 0
+  Failed n = (v : Speed) → n < kmh v → test v ≡ false
 
-column_higher : (u v : Speed) → kmh u < kmh v → column u < column v
-column_higher u v l = grind arith
+  -- u is the only speed above so many km/h that is not above u
+  abbrev Alone : ℕ → Speed → Type 0
+  Alone n u = (v : Speed) → n < kmh v → (v ≡ u) ⊎ (kmh u < kmh v)
 
-place_of : (i : ℕ) → i < 9 → column (get_or speeds i V30) ≡ i
-place_of zero l = refl
-place_of (suc zero) l = refl
-place_of (suc (suc zero)) l = refl
-place_of (suc (suc (suc zero))) l = refl
-place_of (suc (suc (suc (suc zero)))) l = refl
-place_of (suc (suc (suc (suc (suc zero))))) l = refl
-place_of (suc (suc (suc (suc (suc (suc zero)))))) l = refl
-place_of (suc (suc (suc (suc (suc (suc (suc zero))))))) l = refl
-place_of (suc (suc (suc (suc (suc (suc (suc (suc zero)))))))) l = refl
-place_of (suc (suc (suc (suc (suc (suc (suc (suc (suc i))))))))) l = absurd (omega arith)
+  -- where those above u fail, u passes or the search goes on
+  next : (u : Speed) (n : ℕ) → Alone n u → (rest : Option Speed) → Failed (kmh u) → (Failed n → Top test (option_map_or Go rest Stop)) → Top test (option_map_or Go (cond (test u) (Some u) rest) Stop)
+  next u n alone rest failed further =
+      elim (test u) as (λ b. test u ≡ b → Top test (option_map_or Go (cond b (Some u) rest) Stop)) [
+        | true ↦ λ e. (e, failed)
+        | false ↦ λ e. further (λ v l. ⊎_elim (λ same. subst (λ w. test w ≡ false) (sym same) e) (failed v) (alone v l))
+      ] refl
 
-module _ (test : Speed → Bool) (left : ℕ) (failed : (k : ℕ) → left ≤ k → k < 9 → test (get_or speeds k V30) ≡ false) where
-  -- a speed at a place passed over fails
-  pub failed_above : (v : Speed) → left ≤ column v → test v ≡ false
-  failed_above v l = subst (λ u. test u ≡ false) (placed v).1 (failed (column v) l (placed v).0)
+  highest_found : Top test (option_map_or Go (find test (reverse speeds)) Stop)
+  highest_found =
+      next V120 100 (λ v l. grind arith) _ (λ v l. absurd (grind arith))
+      (λ a. next V100 90 (λ v l. grind arith) _ a
+      (λ b. next V90 80 (λ v l. grind arith) _ b
+      (λ c. next V80 70 (λ v l. grind arith) _ c
+      (λ d. next V70 60 (λ v l. grind arith) _ d
+      (λ e. next V60 50 (λ v l. grind arith) _ e
+      (λ f. next V50 40 (λ v l. grind arith) _ f
+      (λ g. next V40 30 (λ v l. grind arith) _ g
+      (λ h. next V30 0 (λ v l. grind arith) _ h
+      (λ i v. i v (grind arith))))))))))
 
-  -- each speed above that of the next place fails
-  pub failed_higher : (v : Speed) → 0 < left → left ≤ 9 → kmh (get_or speeds (left - 1) V30) < kmh v → test v ≡ false
-  failed_higher v some within higher =
-      let next = place_of (left - 1) (omega arith) in
-      let above = column_higher (get_or speeds (left - 1) V30) v higher in
-      failed_above v (omega arith)
+  pub highest_from_found : (found : Option Speed) (top : Code) → found ≡ find test (reverse speeds) → MatchOption found (top ≡ Stop) (λ v. top ≡ Go v) → top ≡ highest test
+  unfolding highest
+  highest_from_found None top e is = is ∙ ap (λ o. option_map_or Go o Stop) e
+  highest_from_found (Some v) top e is = is ∙ ap (λ o. option_map_or Go o Stop) e
 
-  -- one place more was passed over
-  pub failed_more : (v : Speed) → v ≡ get_or speeds (left - 1) V30 → test v ≡ false → (k : ℕ) → left - 1 ≤ k → k < 9 → test (get_or speeds k V30) ≡ false
-  failed_more v at fails k low high =
-      elim (ℕ_discrete (left - 1) k) [
-        | yes here ↦ subst (λ n. test (get_or speeds n V30) ≡ false) here (subst (λ u. test u ≡ false) at fails)
-        | no further ↦ failed k (omega arith) high
-      ]
+  pub highest_top : Top test (highest test)
+  unfolding highest
+  highest_top = highest_found
+
+  pub top_highest : (top : Code) → top ≡ highest test → Top test top
+  top_highest top e = subst (Top test) (sym e) highest_top

@@ -5,3 +5,4 @@ pub mod Readings
 pub mod Searching
 pub mod Braked
 pub mod Limits
+pub mod Found

@@ -1,6 +1,7 @@
 // The highest code from which a train is down to another, or stops, within so many metres.
+ghost use Rattle.std.specs.Prelude.{◌≡◌};
 ghost use Rattle.rules.specs.Rules.{Down, Halts};
-ghost use Rattle.rules.specs.Searching.{UpTo};
+ghost use Rattle.rules.specs.Searching.{highest, UpTo};
 ghost use Rattle.rules.specs.Braked.{down_to, halts};
 
 use super::searching::{SpeedTest, highest_passing};
@@ -46,7 +47,8 @@ impl<'a, B: BrakingBook> SpeedTest for ServiceTest<'a, B> {
 
 // The highest code from which emergency braking brings a train down to `to` within so many metres of the class.
 pub fn highest_down<B: BrakingBook>(book: &B, class: Class, to: Code, metres: u64) -> Code
-    ensures { UpTo (λ c. Down (B.BrakingBook.emergencies book.now) class c to metres) result }
+    ensures value { result ≡ highest (down_to (B.BrakingBook.emergencies book.now) class to metres) }
+    ensures up_to { UpTo (λ c. Down (B.BrakingBook.emergencies book.now) class c to metres) result }
 {
     highest_passing(&EmergencyTest {
         book,

@@ -1,5 +1,7 @@
 // The highest codes of an interval by each of the rules 1 to 4, by all four, and by rule 5.
-ghost use Rattle.std.specs.Prelude.{ℕ, ◌-◌};
+ghost use Rattle.std.specs.Prelude.{◌≡◌, ℕ, ◌-◌};
+ghost use Rattle.codes.specs.Speeds.{lower};
+ghost use Rattle.codes.specs.declared.speeds.Code.TheVariants.{Go};
 ghost use Rattle.ground.specs.Ground.{stretch_value};
 ghost use Rattle.ground.specs.Kinds.{steepness};
 ghost use Rattle.rules.specs.Tracks.{Track, Mark};
@@ -11,8 +13,8 @@ ghost use Rattle.rules.specs.Limits.{Served, Stopped, Placed, At, Caps, Within, 
 use super::braked::{highest_down, highest_emergency_stop, highest_service_stop};
 use super::lines::Line;
 use super::places::{Limits, Place};
-use super::restricted::{ahead_limit, class_from, touching_limit};
-use super::searching::{SpeedTest, highest_passing};
+use super::restricted::{ahead_limit, class_from, lower_of, touching_limit};
+use super::searching::SpeedTest;
 use books::BrakingBook;
 use codes::{Class, Code, Speed};
 use ground::Entry;
@@ -55,24 +57,30 @@ pub fn limits_at<B: BrakingBook>(line: &Line<'_>, place: &Place, book: &B) -> Li
     placed_limits(line, place, book)
 }
 
-// A speed passes if it is above none of the four.
-impl SpeedTest for Limits {
-    ghost passed = { within };
-
-    fn passes(&self, speed: Speed) -> bool {
-        let code = Code::Go(speed);
-        if self.touching.is_below(code) || self.ahead.is_below(code) {
-            return false;
-        }
-        !self.service.is_below(code) && !self.stopping.is_below(code)
-    }
-}
-
 // The highest code that obeys the rules 1 to 4.
 pub fn highest_code(limits: &Limits) -> Code
     ensures { UpTo (Within limits.now) result }
 {
-    highest_passing(limits)
+    let by_restrictions = lower_of(limits.touching, limits.ahead);
+    let by_mark = lower_of(limits.service, limits.stopping);
+    lower_of(by_restrictions, by_mark)
+}
+
+// Whether a speed is above a limit.
+fn is_above(speed: Speed, limit: Code) -> bool
+    ensures { result ≡ lower limit (Go speed) }
+{
+    limit < Code::Go(speed)
+}
+
+// A speed passes if it is above none of the four.
+impl SpeedTest for Limits {
+    ghost passed = { within };
+
+    #[tactic(auto, using(crate::proofs::Limited::within_top))]
+    fn passes(&self, speed: Speed) -> bool {
+        !is_above(speed, highest_code(self))
+    }
 }
 
 // The highest code by rule 5 of an interval that ends at `end`, before one that ends at `next_end` and has the code `next`.

@@ -1,6 +1,9 @@
 // An interval before a stop mark, in metres, and the highest codes that the rules leave it.
 use codes::Code;
 
+// The longest train, in metres.
+pub const TRAIN_LENGTH: u64 = 170;
+
 // Where an interval begins and ends, and the position and the danger point of a stop mark, in metres.
 #[derive(Clone, Copy)]
 pub struct Place {

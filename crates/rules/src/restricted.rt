@@ -1,21 +1,16 @@
 // The highest codes of an interval by the restrictions that touch it and by those ahead of it.
-ghost use Rattle.std.specs.Prelude.{◌≡◌, ◌-◌, min};
-ghost use Rattle.std.specs.List.{AllByRecursion};
-ghost use Rattle.codes.specs.Speeds.{byte};
+ghost use Rattle.std.specs.Prelude.{◌≡◌, ◌-◌, map};
 ghost use Rattle.ground.specs.Ground.{stretch_value};
 ghost use Rattle.ground.specs.Kinds.{steepness};
 ghost use Rattle.rules.specs.Rules.{train_length};
-ghost use Rattle.rules.specs.Searching.{UpTo};
-ghost use Rattle.rules.specs.Limits.{touches, lies_ahead, Touched, Braked};
+ghost use Rattle.rules.specs.Limits.{touches, lies_ahead};
+ghost use Rattle.rules.specs.Found.{lower_of, lowest, touching_code, ahead_code};
 
 use super::braked::highest_down;
-use super::places::Place;
+use super::places::{Place, TRAIN_LENGTH};
 use books::BrakingBook;
 use codes::{Class, Code, Speed};
 use ground::{Entry, worst_over};
-
-// The longest train, in metres.
-const TRAIN_LENGTH: u64 = 170;
 
 // The class of the ground from a train's length before the end of an interval on.
 pub fn class_from(gradients: &[Entry<Class>], end: u64, to: u64) -> Class
@@ -25,10 +20,10 @@ pub fn class_from(gradients: &[Entry<Class>], end: u64, to: u64) -> Class
 }
 
 // The lower of two codes.
-fn lower_of(one: Code, other: Code) -> Code
-    ensures { byte result ≡ min (byte one) (byte other) }
+pub fn lower_of(one: Code, other: Code) -> Code
+    ensures { result ≡ lower_of one other }
 {
-    if other.is_below(one) { other } else { one }
+    if other < one { other } else { one }
 }
 
 // Whether a restriction begins before the danger point and touches the interval, the train's length behind it included.
@@ -49,7 +44,7 @@ fn lies_ahead(restriction: &Entry<Speed>, place: &Place) -> bool
 
 // The highest code by one restriction, if it touches the interval; 120 km/h else.
 fn touching_code(restriction: &Entry<Speed>, place: &Place) -> Code
-    ensures { UpTo (Touched place.now restriction.now) result }
+    ensures { result ≡ touching_code place.now restriction.now }
 {
     if touches(restriction, place) {
         Code::Go(restriction.value)
@@ -65,7 +60,7 @@ fn ahead_code<B: BrakingBook>(
     place: &Place,
     book: &B,
 ) -> Code
-    ensures { UpTo (Braked (B.BrakingBook.emergencies book.now) gradients.now place.now restriction.now) result }
+    ensures { result ≡ ahead_code (B.BrakingBook.emergencies book.now) gradients.now place.now restriction.now }
 {
     if !lies_ahead(restriction, place) {
         return Code::Go(Speed::V120);
@@ -82,13 +77,12 @@ fn ahead_code<B: BrakingBook>(
 
 // The highest code by all restrictions that touch the interval.
 pub fn touching_limit(restrictions: &[Entry<Speed>], place: &Place) -> Code
-    ensures { UpTo (λ c. AllByRecursion (λ x. Touched place.now x c) restrictions.now) result }
+    ensures { result ≡ lowest (map (touching_code place.now) restrictions.now) }
 {
-    let mut limit = Code::Go(Speed::V120);
-    for restriction in restrictions {
-        limit = lower_of(limit, touching_code(restriction, place));
-    }
-    limit
+    restrictions
+        .iter()
+        .map(|restriction| touching_code(restriction, place))
+        .fold(Code::Go(Speed::V120), lower_of)
 }
 
 // The highest code by all restrictions that lie ahead.
@@ -98,11 +92,10 @@ pub fn ahead_limit<B: BrakingBook>(
     place: &Place,
     book: &B,
 ) -> Code
-    ensures { UpTo (λ c. AllByRecursion (λ x. Braked (B.BrakingBook.emergencies book.now) gradients.now place.now x c) restrictions.now) result }
+    ensures { result ≡ lowest (map (ahead_code (B.BrakingBook.emergencies book.now) gradients.now place.now) restrictions.now) }
 {
-    let mut limit = Code::Go(Speed::V120);
-    for restriction in restrictions {
-        limit = lower_of(limit, ahead_code(restriction, gradients, place, book));
-    }
-    limit
+    restrictions
+        .iter()
+        .map(|restriction| ahead_code(restriction, gradients, place, book))
+        .fold(Code::Go(Speed::V120), lower_of)
 }

@@ -1,8 +1,9 @@
 // The search for the highest code, from the highest speed down.
-ghost use Rattle.std.specs.Prelude.{◌≡◌, ◌<◌, Bool, slice_index_or};
+ghost use Rattle.std.specs.Prelude.{◌≡◌, Bool, reverse};
+ghost use Rattle.std.specs.List.{find};
 ghost use Rattle.codes.specs.Speeds.{speeds};
 ghost use Rattle.codes.specs.declared.speeds.Speed.{Speed};
-ghost use Rattle.rules.specs.Searching.{Top};
+ghost use Rattle.rules.specs.Searching.{highest, Top};
 
 use codes::{Code, Speed};
 
@@ -15,27 +16,21 @@ pub trait SpeedTest {
         ensures { result ≡ passed self.now speed };
 }
 
-// The speed at a place, counted from 0; they rise.
-fn speed_at(place: usize) -> Speed
-    requires { place < 9 }
-    ensures { result ≡ slice_index_or speeds place Speed.V30 }
+// The highest of the nine speeds that passes, if one does.
+fn highest_speed<T: SpeedTest>(test: &T) -> Option<Speed>
+    ensures { result ≡ find (T.SpeedTest.passed test.now) (reverse speeds) }
 {
-    Speed::ALL[place]
+    Speed::ALL
+        .iter()
+        .rev()
+        .copied()
+        .find(|speed| test.passes(*speed))
 }
 
 // The highest speed that passes, or stop where none does.
 pub fn highest_passing<T: SpeedTest>(test: &T) -> Code
-    ensures { Top (T.SpeedTest.passed test.now) result }
+    ensures value { result ≡ highest (T.SpeedTest.passed test.now) }
+    ensures top { Top (T.SpeedTest.passed test.now) result }
 {
-    let mut left: usize = 9;
-    loop {
-        if left == 0 {
-            break Code::Stop;
-        }
-        left -= 1;
-        let speed = speed_at(left);
-        if test.passes(speed) {
-            break Code::Go(speed);
-        }
-    }
+    highest_speed(test).map_or(Code::Stop, Code::Go)
 }
