@@ -11,5 +11,6 @@ mod Broken
 mod Refused
 pub mod Verdicts
 mod Lacks
+mod Exits
 pub mod Single
 pub mod SingleRefusals

@@ -15,15 +15,14 @@ use Rattle.codes.specs.Refusals.{notice}
 use Rattle.codes.specs.Speeds.{byte}
 use Rattle.codes.specs.Gradients.{number}
 use Rattle.laws.specs.Books.{Emergencies, Services}
-use Rattle.rules.specs.declared.lines.Line.{Line}
 use Rattle.rules.specs.Tracks.{Track, Mark, begin_of, class_over}
 use Rattle.rules.specs.Rules.{train_length, InGround, Lawful}
 use Rattle.rules.specs.Rows.{Highest}
 use Rattle.rows.specs.declared.targets.Target.{Target}
 use Rattle.rows.specs.declared.letters.StopLetter.{StopLetter}
 use Rattle.rows.specs.declared.letters.StopLetter.TheVariants.{Sf, Sv}
-use Rattle.rows.specs.Drawings.{Drawing, drawing_of, track_drawn}
-use Rattle.rows.specs.Targets.{track_of, mark_of}
+use Rattle.rows.specs.Drawings.{Drawing, track_drawn}
+use Rattle.rows.specs.Targets.{mark_of}
 use Rattle.rows.specs.Asking.{Asked, Unasked}
 use Rattle.rows.specs.Passing.{codes_of}
 
@@ -56,7 +55,13 @@ pub data Unworked (drawing : Drawing) (mark_number approach : ℕ) (E : Emergenc
   unasked : (why : ℕ × List ℕ) → Unasked drawing mark_number approach (length bytes) why → Unworked drawing mark_number approach E D bytes why
   none : (target : Target) (speed : Speed) → Asked drawing mark_number approach target speed → length bytes ≡ target.held.interval → ((row : List Code) → Lawful (track_drawn drawing) (mark_of target) E D speed row → ⊥) → Unworked drawing mark_number approach E D bytes (13, [])
 
--- the highest row was found and copied, and its stop ground is told; or no row is lawful and the bytes are as they were
-abbrev pub Settled : Line → Target → Emergencies → Services → Speed → List ℕ → Result (StopLetter × ℕ) Refusal → List ℕ → Type 0
-Settled line target E D approach before (Ok told) after = Highest (track_of line) (mark_of target) E D approach (codes_of after) × Spells 0 after × Grounded (drawing_of line) target E D told.0 told.1
-Settled line target E D approach before (Err why) after = (notice why ≡ (13, [])) × ((row : List Code) → Lawful (track_of line) (mark_of target) E D approach row → ⊥) × (after ≡ before)
+-- no row is lawful, and the bytes are as they were
+pub record Unsettled (drawing : Drawing) (target : Target) (E : Emergencies) (D : Services) (approach : Speed) (before : List ℕ) (why : Refusal) (after : List ℕ) : Type 0 where
+  pub refused : notice why ≡ (13, [])
+  pub none : (row : List Code) → Lawful (track_drawn drawing) (mark_of target) E D approach row → ⊥
+  pub same : after ≡ before
+
+-- the highest row was found and copied, and its stop ground is told; or no row is lawful
+abbrev pub Settled : Drawing → Target → Emergencies → Services → Speed → List ℕ → Result (StopLetter × ℕ) Refusal → List ℕ → Type 0
+Settled drawing target E D approach before (Ok told) after = Highest (track_drawn drawing) (mark_of target) E D approach (codes_of after) × Spells 0 after × Grounded drawing target E D told.0 told.1
+Settled drawing target E D approach before (Err why) after = Unsettled drawing target E D approach before why after

@@ -1,5 +1,6 @@
 // Finding the highest row: from the mark's interval back, each interval gets the highest code that it may have before the next.
-ghost use Rattle.std.specs.Prelude.{◌≡◌, length, slice_index_or};
+ghost use Rattle.std.specs.Prelude.{◌≡◌, min, length, slice_index_or};
+ghost use Rattle.codes.specs.Speeds.{byte};
 ghost use Rattle.rules.specs.Searching.{UpTo};
 ghost use Rattle.rows.specs.Targets.{track_of, mark_of};
 ghost use Rattle.rows.specs.Finding.{FoundFrom};
@@ -12,12 +13,18 @@ use books::BrakingBook;
 use codes::Code;
 use rules::highest_code;
 
+// The lower of two codes.
+fn lower_of(one: Code, other: Code) -> Code
+    ensures { byte result ≡ min (byte one) (byte other) }
+{
+    if other < one { other } else { one }
+}
+
 // The highest code within all five.
 pub(super) fn highest_within(caps: &FiveCaps) -> Code
     ensures { UpTo (WithinFive caps.now) result }
 {
-    let top = highest_code(&caps.four);
-    if caps.next < top { caps.next } else { top }
+    lower_of(caps.next, highest_code(&caps.four))
 }
 
 // Writes the highest code of each interval up to the mark's into a row of bytes, and answers the pass at the approach.

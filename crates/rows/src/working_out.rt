@@ -70,7 +70,7 @@ fn settled<B: BrakingBook>(
 ) -> Result<(StopLetter, usize), Refusal>
     requires size { length row.old ≡ survey.now.target.held.interval }
     requires room { length found.old ≡ survey.now.target.held.interval }
-    ensures { Settled survey.now.line survey.now.target (B.emergencies survey.now.book.now) (B.services survey.now.book.now) approach row.old result row.new }
+    ensures { Settled (drawing_of survey.now.line) survey.now.target (B.emergencies survey.now.book.now) (B.services survey.now.book.now) approach row.old result row.new }
 {
     let pass = fill_row(survey, found);
     let allowed = is_allowed(survey, &pass, approach);
@@ -88,6 +88,7 @@ fn settled<B: BrakingBook>(
 // row has not a byte for each interval up to the mark's) and 13, exactly where no row is lawful. Memory is wanting exactly where,
 // after the first three, the scratch lent has fewer bytes than the row. A refusal, and want of memory, leave the row's bytes; what
 // the scratch holds before and afterwards does not matter.
+#[tactic(auto, using(crate::proofs::Exits::worked_unasked))]
 pub fn work_out_in<B: BrakingBook>(
     line: &Line<'_>,
     mark: u16,
@@ -113,8 +114,9 @@ pub fn work_out_in<B: BrakingBook>(
     Ok(settled(&survey, speed, row, found)?)
 }
 
-// Works out the highest row before a stop mark as `work_out_in` does, in memory of its own, which is asked for after the first three
-// refusals. Want of memory leaves the row's bytes.
+// Works out the highest row before a stop mark as `work_out_in` does, in memory of its own, which is asked for once none of the first
+// three refusals is due. Want of memory leaves the row's bytes.
+#[tactic(auto, using(crate::proofs::Exits::worked_unasked))]
 pub fn work_out<B: BrakingBook>(
     heap: Global,
     line: &Line<'_>,
@@ -126,12 +128,7 @@ pub fn work_out<B: BrakingBook>(
     ensures cases { WorkedOut (drawing_of line.now) mark approach (B.BrakingBook.emergencies book.now) (B.BrakingBook.services book.now) row.old result row.new }
     ensures passes { Passing (drawing_of line.now) mark approach (B.BrakingBook.emergencies book.now) (B.BrakingBook.services book.now) result row.new }
 {
-    let (target, asked_speed) = asked_for(line, mark, approach, row)?;
-    let mut found = row.to_vec(heap)?;
-    let survey = Survey {
-        line: *line,
-        target,
-        book,
-    };
-    Ok(settled(&survey, asked_speed, row, found.as_mut_slice())?)
+    let _ = asked_for(line, mark, approach, row)?;
+    let mut scratch = row.to_vec(heap)?;
+    work_out_in(line, mark, approach, book, row, scratch.as_mut_slice())
 }

@@ -17,7 +17,7 @@ returns-in_err-target g c =
 
 pub returns-then-not-are_codes : goal.returns-then-not-are_codes
 returns-then-not-are_codes g c =
-    strange c.in_ok-target.target c.in_ok-target.speed c.in_ok-target.ensures.0 c.in_ok-target.ensures.1
+    strange c.in_ok-target.target c.in_ok-target.speed c.in_ok-target.ensures.asked c.in_ok-target.ensures.sized
     (not_from_Decides _ (spells_decided c.args.row.now c.are_codes.result c.are_codes.ensures) c.if-not-are_codes.true)
 
 pub returns-in-None : goal.returns-in-None
@@ -26,10 +26,10 @@ returns-in-None g c =
     record {
       target = c.in_ok-target.target;
       speed = c.in_ok-target.speed;
-      asked = c.in_ok-target.ensures.0;
+      asked = c.in_ok-target.ensures.asked;
       spelt = (spells_decided c.args.row.now c.are_codes.result c.are_codes.ensures).0 c.if-not-are_codes.false;
       lawful = lawful_from_known (track_of c.args.line.now) (mark_of c.in_ok-target.target) (g.B.BrakingBook.emergencies book) (g.B.BrakingBook.services book) c.in_ok-target.speed (codes_of c.args.row.now)
-          (length-map c.args.row.now read_code ∙ c.in_ok-target.ensures.1) c.in-None.ensures;
+          (length-map c.args.row.now read_code ∙ c.in_ok-target.ensures.sized) c.in-None.ensures;
     }
 
 pub returns-in-Some : goal.returns-in-Some
@@ -41,6 +41,6 @@ returns-in-Some g c =
     let found = c.in-Some.found in
     let known = c.in-Some.ensures in
     let at = λ (rule : ℕ). Failed (drawing_of line) c.args.mark c.args.approach E D c.args.row.now (12, found.interval ∷ rule ∷ []) in
-    rw c.into.ensures (subst at known.numbered (unlawful c.in_ok-target.target c.in_ok-target.speed c.in_ok-target.ensures.0 c.in_ok-target.ensures.1
+    rw c.into.ensures (subst at known.numbered (unlawful c.in_ok-target.target c.in_ok-target.speed c.in_ok-target.ensures.asked c.in_ok-target.ensures.sized
     ((spells_decided c.args.row.now c.are_codes.result c.are_codes.ensures).0 c.if-not-are_codes.false) found.interval known.rule
     (breaks_from_known (track_of line) (mark_of c.in_ok-target.target) E D c.in_ok-target.speed (codes_of c.args.row.now) found known)))

@@ -17,13 +17,14 @@ returns-else-allowed g c =
     let mark = mark_of survey.target in
     let book = survey.book.now in
     let E = g.B.BrakingBook.emergencies book in
-    let D = g.B.BrakingBook.services book in (
-      refl,
-      λ other lawful. not_from_Decides _ c.is_allowed-allowed.ensures c.if-allowed.false
+    let D = g.B.BrakingBook.services book in
+    record {
+      refused = refl;
+      none = λ other lawful. not_from_Decides _ c.is_allowed-allowed.ensures c.if-allowed.false
           (subst (Allowed track mark E D 0 (Go c.args.approach)) (sym c.fill_row-pass.ensures.next)
-          (approach_allowed E D (g.B.BrakingBook.laws book) track mark (codes_of c.fill_row-pass.new.row) c.fill_row-pass.ensures.found c.args.approach other lawful)),
-      c.copy_lawful.ensures ∙ cond-false c.is_allowed-allowed.result _ _ c.if-allowed.false,
-    )
+          (approach_allowed E D (g.B.BrakingBook.laws book) track mark (codes_of c.fill_row-pass.new.row) c.fill_row-pass.ensures.found c.args.approach other lawful));
+      same = c.copy_lawful.ensures ∙ cond-false c.is_allowed-allowed.result _ _ c.if-allowed.false;
+    }
 
 pub returns-then-allowed : goal.returns-then-allowed
 returns-then-allowed g c =
