@@ -1,36 +1,31 @@
 // Calls over a closed sheet.
-ghost use Rattle.replay.specs.Meaning.{call_of, outcome_of, closed_sheet, sheet_of, five_tables, By, Performed};
+ghost use Rattle.sheet.specs.Promises.{tables_of};
+ghost use Rattle.replay.specs.Meaning.{call_of, outcome_of, closed_sheet, sheet_of, By, Performed};
 
 use super::answers::Answer;
 use super::any_sheet::AnySheet;
 use super::calls::{Action, Call};
 use super::lending::lent_parts;
 use books::BrakingBook;
-use codes::{Class, Speed};
-use ground::Entry;
-use rules::{Interval, StopMark};
-use sheet::{ClosedSheet, Refused};
+use sheet::{ClosedSheet, LentTables, Refused};
 use trains::Train;
 
-// A call over a closed sheet.
-pub(super) fn on_closed<'b, 't, B: BrakingBook, T: Train + Drop>(
+// A call over a closed sheet, with the caller's tables.
+pub(super) fn on_closed<'b, B: BrakingBook, T: Train + Drop>(
     sheet: ClosedSheet,
     call: Call<T>,
     book: &'b B,
-    intervals: &'t [Interval],
-    gradients: &'t [Entry<Class>],
-    restrictions: &'t [Entry<Speed>],
-    marks: &'t [StopMark],
+    whole: &LentTables<'_>,
     row_table: &mut [u8],
 ) -> (AnySheet<'b, B, T>, Answer<T>)
-    ensures made { Performed (B.BrakingBook.emergencies book.now) (B.BrakingBook.services book.now) (closed_sheet sheet (five_tables intervals.now gradients.now restrictions.now marks.now row_table.old)) (call_of T.Train.numbers call) (outcome_of T.Train.numbers result.1) (sheet_of T.Train.numbers result.0 (five_tables intervals.now gradients.now restrictions.now marks.now row_table.new)) }
+    ensures made { Performed (B.BrakingBook.emergencies book.now) (B.BrakingBook.services book.now) (closed_sheet sheet (tables_of whole.now row_table.old)) (call_of T.Train.numbers call) (outcome_of T.Train.numbers result.1) (sheet_of T.Train.numbers result.0 (tables_of whole.now row_table.new)) }
     ensures by { By book.now result.0 }
 {
     let Call {
         lent: lending,
         action,
     } = call;
-    let lent = lent_parts(lending, intervals, gradients, restrictions, marks);
+    let lent = lent_parts(lending, whole);
     // Each arm returns, so that each is proved by itself.
     match action {
         Action::Reopen => return (AnySheet::Open(sheet.reopen()), Answer::Done),

@@ -1,28 +1,25 @@
 // Calls over a sheet with a passed row.
-ghost use Rattle.std.specs.Prelude.{List};
 ghost use Rattle.laws.specs.Books.{Services};
 ghost use Rattle.sheet.specs.States.{book_of};
-ghost use Rattle.replay.specs.Meaning.{call_of, outcome_of, passed_sheet, sheet_of, five_tables, By, Performed};
+ghost use Rattle.sheet.specs.Promises.{tables_of};
+ghost use Rattle.replay.specs.Meaning.{call_of, outcome_of, passed_sheet, sheet_of, By, Performed};
 
 use super::answers::Answer;
 use super::any_sheet::AnySheet;
 use super::calls::{Action, Call};
 use super::lending::part;
 use books::BrakingBook;
-use codes::{Class, Speed};
-use ground::Entry;
-use rules::{Interval, StopMark};
-use sheet::{PassedSheet, Refused};
+use sheet::{LentTables, PassedSheet, Refused};
 use trains::Train;
 
-// A call over a sheet with a passed row.
+// A call over a sheet with a passed row, with the caller's tables.
 pub(super) fn on_passed<'b, B: BrakingBook, T: Train + Drop>(
     sheet: PassedSheet<'b, B>,
     call: Call<T>,
-    gradients: &[Entry<Class>],
+    whole: &LentTables<'_>,
     row_table: &[u8],
 ) -> (AnySheet<'b, B, T>, Answer<T>)
-    ensures made { (D : Services) (intervals : List Interval) (restrictions : List (Entry Speed)) (marks : List StopMark) → Performed (B.BrakingBook.emergencies (book_of sheet.entry)) D (passed_sheet sheet.entry (five_tables intervals gradients.now restrictions marks row_table.now)) (call_of T.Train.numbers call) (outcome_of T.Train.numbers result.1) (sheet_of T.Train.numbers result.0 (five_tables intervals gradients.now restrictions marks row_table.now)) }
+    ensures made { (D : Services) → Performed (B.BrakingBook.emergencies (book_of sheet.entry)) D (passed_sheet sheet.entry (tables_of whole.now row_table.now)) (call_of T.Train.numbers call) (outcome_of T.Train.numbers result.1) (sheet_of T.Train.numbers result.0 (tables_of whole.now row_table.now)) }
     ensures by { By (book_of sheet.entry) result.0 }
 {
     let Call { lent, action } = call;
@@ -31,7 +28,7 @@ pub(super) fn on_passed<'b, B: BrakingBook, T: Train + Drop>(
         Action::SetOff { train } => {
             match sheet.set_off(
                 train,
-                part(gradients, lent.gradients),
+                part(whole.gradients, lent.gradients),
                 part(row_table, lent.row),
             ) {
                 Ok(running) => {

@@ -12,6 +12,7 @@ use books::BrakingBook;
 use codes::{Class, Speed};
 use ground::Entry;
 use rules::{Interval, StopMark};
+use sheet::LentTables;
 use trains::Train;
 
 // A call over a sheet in any state. The book is the one that serves the sheet, if one does.
@@ -31,25 +32,35 @@ pub(super) fn perform<'b, B: BrakingBook, T: Train + Drop>(
 {
     // Each arm returns, so that each is proved by itself.
     match sheet {
-        AnySheet::Open(sheet) => return on_open(
-            sheet,
-            call,
-            intervals,
-            gradients,
-            restrictions,
-            marks,
-        ),
-        AnySheet::Closed(sheet) => return on_closed(
-            sheet,
-            call,
-            book,
-            intervals,
-            gradients,
-            restrictions,
-            marks,
-            row_table,
-        ),
-        AnySheet::Passed(sheet) => return on_passed(sheet, call, gradients, row_table),
-        AnySheet::Running(sheet) => return on_running(sheet, call, intervals, gradients, row_table),
+        AnySheet::Open(sheet) => {
+            return on_open(sheet, call, intervals, gradients, restrictions, marks);
+        }
+        AnySheet::Closed(sheet) => {
+            let whole = LentTables {
+                intervals,
+                gradients,
+                restrictions,
+                marks,
+            };
+            return on_closed(sheet, call, book, &whole, row_table);
+        }
+        AnySheet::Passed(sheet) => {
+            let whole = LentTables {
+                intervals,
+                gradients,
+                restrictions,
+                marks,
+            };
+            return on_passed(sheet, call, &whole, row_table);
+        }
+        AnySheet::Running(sheet) => {
+            let whole = LentTables {
+                intervals,
+                gradients,
+                restrictions,
+                marks,
+            };
+            return on_running(sheet, call, &whole, row_table);
+        }
     }
 }

@@ -3,7 +3,7 @@ use Rattle.std.proofs.lemmas.List.{take_at}
 use Rattle.codes.specs.Refusals.{notice}
 use Rattle.runs.specs.Orders.{worked, unworked}
 use Rattle.sheet.specs.Promises.{tables_of}
-use Rattle.replay.specs.Meaning.{lent_of, five_tables}
+use Rattle.replay.specs.Meaning.{lent_of}
 use Rattle.replay.specs.declared.calls.Action.TheVariants.{WorkOut, Submit}
 use Rattle.replay.proofs.Ruling.{acted}
 use Rattle.replay.proofs.WorkedOut.{works_out, works_out_not}
@@ -13,7 +13,7 @@ use Rattle.replay.proofs.closed_calls.on_closed.Goals as goal
 pub returns-in-Ok : goal.returns-in-Ok
 returns-in-Ok g c =
     let book = c.args.book.now in
-    let tables = five_tables c.args.intervals.now c.args.gradients.now c.args.restrictions.now c.args.marks.now c.args.row_table.now in
+    let tables = tables_of c.args.whole.now c.args.row_table.now in
     let row = c.work_out.new.row in
     let long : length row ≡ vec_len c.in-WorkOut.bytes = omega arith in
     record {
@@ -28,7 +28,7 @@ returns-in-Ok g c =
 pub returns-in-Err : goal.returns-in-Err
 returns-in-Err g c =
     let book = c.args.book.now in
-    let tables = five_tables c.args.intervals.now c.args.gradients.now c.args.restrictions.now c.args.marks.now c.args.row_table.now in
+    let tables = tables_of c.args.whole.now c.args.row_table.now in
     let row = c.work_out.new.row in
     let long : length row ≡ vec_len c.in-WorkOut.bytes = omega arith in
     record {
@@ -43,7 +43,7 @@ returns-in-Err g c =
 pub returns-in-Ok-submit : goal.returns-in-Ok-submit
 returns-in-Ok-submit g c =
     let book = c.args.book.now in
-    let tables = five_tables c.args.intervals.now c.args.gradients.now c.args.restrictions.now c.args.marks.now c.args.row_table.now in
+    let tables = tables_of c.args.whole.now c.args.row_table.now in
     let done = submits book (g.B.BrakingBook.emergencies book) (g.B.BrakingBook.services book) (lent_of c.args.call.lent) tables c.args.sheet
     c.in-Submit.mark c.in-Submit.approach (vec_items c.in-Submit.row) (tables_of c.lent_parts-lent.result []) c.as_slice.result.now c.min-room.result
     (c.lent_parts-lent.ensures c.args.row_table.now) c.as_slice.ensures.value (omega arith) c.in-Ok-submit.passed c.submit.new.row_table c.in-Ok-submit.ensures in
@@ -55,7 +55,7 @@ returns-in-Ok-submit g c =
 pub returns-in-Err-submit : goal.returns-in-Err-submit
 returns-in-Err-submit g c =
     let book = c.args.book.now in
-    let tables = five_tables c.args.intervals.now c.args.gradients.now c.args.restrictions.now c.args.marks.now c.args.row_table.now in
+    let tables = tables_of c.args.whole.now c.args.row_table.now in
     record {
       made = acted g.T.Train.numbers c.args.call (Submit c.in-Submit.mark c.in-Submit.approach c.in-Submit.row) c.in-Submit.is refl
           (submits_not book (g.B.BrakingBook.emergencies book) (g.B.BrakingBook.services book) (lent_of c.args.call.lent) tables c.args.sheet

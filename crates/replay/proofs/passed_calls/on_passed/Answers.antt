@@ -1,6 +1,7 @@
 use Rattle.std.proofs.Common.{Ok, Err, refl, ap}
 use Rattle.sheet.specs.States.{book_of}
-use Rattle.replay.specs.Meaning.{lent_of, five_tables}
+use Rattle.sheet.specs.Promises.{tables_of}
+use Rattle.replay.specs.Meaning.{lent_of}
 use Rattle.replay.specs.declared.calls.Action.TheVariants.{SetOff}
 use Rattle.replay.proofs.Ruling.{acted}
 use Rattle.replay.proofs.Riding.{sets_off, sets_off_not, by_parts, outcome_at}
@@ -12,8 +13,8 @@ returns-in-Ok g c =
     let numbers = g.T.Train.numbers in
     let lent = lent_of c.args.call.lent in
     record {
-      made = λ D intervals restrictions marks.
-          let tables = five_tables intervals c.args.gradients.now restrictions marks c.args.row_table.now in
+      made = λ D.
+          let tables = tables_of c.args.whole.now c.args.row_table.now in
           acted numbers c.args.call (SetOff c.in-SetOff.train) c.in-SetOff.is (ap outcome_at c.report-report.ensures)
           (sets_off E D numbers lent tables c.args.sheet c.in-SetOff.train c.in-Ok.running
           (by_parts E D numbers lent tables c.args.sheet c.in-SetOff.train (Ok c.in-Ok.running) c.part.ensures c.part-in-SetOff.ensures c.in-Ok.ensures));
@@ -26,8 +27,8 @@ returns-in-Err g c =
     let numbers = g.T.Train.numbers in
     let lent = lent_of c.args.call.lent in
     record {
-      made = λ D intervals restrictions marks.
-          let tables = five_tables intervals c.args.gradients.now restrictions marks c.args.row_table.now in
+      made = λ D.
+          let tables = tables_of c.args.whole.now c.args.row_table.now in
           acted numbers c.args.call (SetOff c.in-SetOff.train) c.in-SetOff.is refl
           (sets_off_not E D numbers lent tables c.args.sheet c.in-SetOff.train c.in-Err.refused
           (by_parts E D numbers lent tables c.args.sheet c.in-SetOff.train (Err c.in-Err.refused) c.part.ensures c.part-in-SetOff.ensures c.in-Err.ensures));
