@@ -1,76 +1,113 @@
-// The sheet of a line: its start, if it has one yet, and the records that were entered.
+// The sheet of a line: its start, and the records that were entered.
 use codes::{Class, Refusal, Speed};
+use entering::{enter_gradient, enter_interval, enter_mark, enter_restriction};
 use ground::Entry;
 use rules::{Interval, Line, StopMark};
-use std::alloc::Global;
 
-#[derive(Drop)]
+// How many intervals, gradients or restrictions a sheet takes.
+const MOST_RECORDS: usize = 64;
+
+// How many marks a sheet takes.
+const MOST_MARKS: usize = 16;
+
+// A table of fixed room, as the library is lent it, with the count of the records in use.
+#[derive(Clone, Copy)]
+struct Table<T, const N: usize> {
+    records: [T; N],
+    count: usize,
+}
+
+impl<T: Copy, const N: usize> Table<T, N> {
+    // A table in which no record is in use.
+    fn blank(record: T) -> Table<T, N> {
+        Table {
+            records: [record; N],
+            count: 0,
+        }
+    }
+
+    // The records in use.
+    fn entered(&self) -> &[T] {
+        &self.records[..self.count.min(N)]
+    }
+}
+
+#[derive(Clone, Copy)]
 pub struct Sheet {
-    pub start: Option<u32>,
-    pub intervals: Vec<Interval>,
-    pub gradients: Vec<Entry<Class>>,
-    pub restrictions: Vec<Entry<Speed>>,
-    pub marks: Vec<StopMark>,
+    start: u32,
+    intervals: Table<Interval, MOST_RECORDS>,
+    gradients: Table<Entry<Class>, MOST_RECORDS>,
+    restrictions: Table<Entry<Speed>, MOST_RECORDS>,
+    marks: Table<StopMark, MOST_MARKS>,
+}
+
+// A record that stands where none is in use.
+fn blank_entry<V>(value: V) -> Entry<V> {
+    Entry {
+        from: 0,
+        to: 0,
+        value,
+    }
 }
 
 impl Sheet {
-    // A sheet without a start.
-    pub fn new(heap: Global) -> Sheet {
-        Sheet {
-            start: None,
-            intervals: Vec::new(heap),
-            gradients: Vec::new(heap),
-            restrictions: Vec::new(heap),
-            marks: Vec::new(heap),
-        }
-    }
-
-    // Begins a blank line at its start, 1,000 to 100,000; any other start is refused by 6 and leaves the sheet.
-    pub fn begin(&mut self, start: u32) -> Result<(), Refusal> {
-        if start < 1_000 || start > 100_000 {
+    // A blank line with its start, 1,000 to 100,000; any other start is refused by 6.
+    pub fn begun(start: u32) -> Result<Sheet, Refusal> {
+        if !(1_000..=100_000).contains(&start) {
             return Err(Refusal::Stretch);
         }
-        self.start = Some(start);
-        self.intervals.clear();
-        self.gradients.clear();
-        self.restrictions.clear();
-        self.marks.clear();
+        Ok(Sheet {
+            start,
+            intervals: Table::blank(Interval {
+                number: 0,
+                length: 0,
+            }),
+            gradients: Table::blank(blank_entry(Class::C1)),
+            restrictions: Table::blank(blank_entry(Speed::V30)),
+            marks: Table::blank(StopMark {
+                number: 0,
+                position: 0,
+                danger: 0,
+            }),
+        })
+    }
+
+    // Enters an interval; a refusal leaves the sheet as it was.
+    pub fn enter_interval(&mut self, number: u16, length: u32) -> Result<(), Refusal> {
+        let table = &mut self.intervals;
+        table.count = enter_interval(&mut table.records, table.count, number, length)?;
         Ok(())
     }
 
-    // The line that starts there, as the library takes it.
-    pub fn line(&self, start: u32) -> Line<'_> {
+    // Enters a gradient; a refusal leaves the sheet as it was.
+    pub fn enter_gradient(&mut self, from: u32, to: u32, faldtal: i32) -> Result<(), Refusal> {
+        let table = &mut self.gradients;
+        table.count = enter_gradient(&mut table.records, table.count, from, to, faldtal)?;
+        Ok(())
+    }
+
+    // Enters a restriction; a refusal leaves the sheet as it was.
+    pub fn enter_restriction(&mut self, from: u32, to: u32, kmh: u8) -> Result<(), Refusal> {
+        let table = &mut self.restrictions;
+        table.count = enter_restriction(&mut table.records, table.count, from, to, kmh)?;
+        Ok(())
+    }
+
+    // Enters a stop mark; a refusal leaves the sheet as it was.
+    pub fn enter_mark(&mut self, number: u16, position: u32, danger: u32) -> Result<(), Refusal> {
+        let table = &mut self.marks;
+        table.count = enter_mark(&mut table.records, table.count, number, position, danger)?;
+        Ok(())
+    }
+
+    // The line, as the library takes it.
+    pub fn line(&self) -> Line<'_> {
         Line {
-            start,
-            intervals: self.intervals.as_slice(),
-            gradients: self.gradients.as_slice(),
-            restrictions: self.restrictions.as_slice(),
-            marks: self.marks.as_slice(),
+            start: self.start,
+            intervals: self.intervals.entered(),
+            gradients: self.gradients.entered(),
+            restrictions: self.restrictions.entered(),
+            marks: self.marks.entered(),
         }
     }
-}
-
-// The position of the mark of a number, or none.
-fn position_of(marks: &[StopMark], number: u16) -> Option<u64> {
-    for mark in marks {
-        if mark.number == number {
-            return Some(mark.position as u64);
-        }
-    }
-    None
-}
-
-// How many bytes a row before a mark has: the place of the mark's interval, or 0 where it stands in none.
-pub fn row_size(line: &Line<'_>, mark: u16) -> usize {
-    let Some(position) = position_of(line.marks, mark) else {
-        return 0;
-    };
-    let mut end = line.start as u64;
-    for (place, interval) in line.intervals.iter().enumerate() {
-        end = end.saturating_add(interval.length as u64);
-        if position <= end {
-            return place.saturating_add(1);
-        }
-    }
-    0
 }

@@ -7,6 +7,7 @@
 --     letter_word l            a stop letter
 --     row_text row l place     the codes of a row, its stop letter and the place of the first interval of the stop ground
 use Rattle.std.specs.Prelude.{ℕ, cond, List, [], ◌∷◌, ◌++◌, codes, decimal, ◌==◌}
+use Rattle.std.specs.List.{flat_map}
 use Rattle.codes.specs.declared.refusals.Refusal.{Refusal}
 use Rattle.codes.specs.declared.refusals.Refusal.TheVariants as refusal
 use Rattle.codes.specs.declared.refusals.FileFault.TheVariants.{Torn}
@@ -52,9 +53,8 @@ refusal_text w = plain_text (notice w).0 (word_of w ++ values_text (notice w).1)
 abbrev pub code_word : ℕ → List ℕ
 code_word b = cond (b == 0) (codes "stop") (decimal b)
 
-unfoldable pub codes_text : List ℕ → List ℕ
-codes_text [] = []
-codes_text (b ∷ bs) = (code_word b ++ codes " ") ++ codes_text bs
+abbrev pub codes_text : List ℕ → List ℕ
+codes_text = flat_map (λ b. code_word b ++ codes " ")
 
 abbrev pub letter_word : StopLetter → List ℕ
 letter_word Sf = codes "Sf"

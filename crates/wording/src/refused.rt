@@ -1,9 +1,9 @@
 // The words of refusals.
-ghost use Rattle.std.specs.Prelude.{◌≡◌, ◌++◌, IfOk, string_bytes, codes, decimal};
-ghost use Rattle.wording.specs.Wordings.{word_of, plain_text, refusal_text};
+ghost use Rattle.std.specs.Prelude.{◌≡◌, Some};
+ghost use Rattle.wording.specs.Wordings.{word_of, refusal_text};
 
 use codes::{BookFault, FileFault, RecordFault, Refusal};
-use std::alloc::{AllocError, Global};
+use std::fmt;
 
 // The word of a refusal.
 fn word_of(refusal: Refusal) -> &'static str
@@ -33,34 +33,23 @@ fn word_of(refusal: Refusal) -> &'static str
     }
 }
 
-// The text of a refusal without values.
-fn plain_text(heap: Global, number: u8, word: &str) -> Result<String, AllocError>
-    ensures { IfOk result (λ text. string_bytes text ≡ plain_text number word.now) }
-{
-    format!(in heap; "refused {number} {word}")
-}
+// A refusal as it is told: its number, its word, and its values where it has some.
+#[derive(Clone, Copy)]
+pub struct Told(pub Refusal);
 
-// The text of a refusal with two values.
-fn valued_text(
-    heap: Global,
-    number: u8,
-    word: &str,
-    first: usize,
-    second: u8,
-) -> Result<String, AllocError>
-    ensures { IfOk result (λ text. string_bytes text ≡ plain_text number (word.now ++ (codes " " ++ (decimal first ++ (codes " " ++ decimal second))))) }
-{
-    format!(in heap; "refused {number} {word} {first} {second}")
-}
+impl fmt::Display for Told {
+    ghost output = { λ told. Some (refusal_text told.0) };
 
-// The text of a refusal: its number, its word, and its values where it has some.
-pub fn refusal_text(heap: Global, refusal: Refusal) -> Result<String, AllocError>
-    ensures { IfOk result (λ text. string_bytes text ≡ refusal_text refusal) }
-{
-    let number = refusal.number();
-    let word = word_of(refusal);
-    match refusal {
-        Refusal::Unlawful { interval, rule } => valued_text(heap, number, word, interval, rule),
-        _ => plain_text(heap, number, word),
+    #[tactic(auto, using(crate::proofs::Texts::refusals))]
+    fn fmt<W: fmt::Write>(&self, f: &mut fmt::Formatter<W>) -> fmt::Result {
+        let refusal = self.0;
+        let number = refusal.number();
+        let word = word_of(refusal);
+        match refusal {
+            Refusal::Unlawful { interval, rule } => {
+                write!(f, "refused {number} {word} {interval} {rule}")
+            }
+            _ => write!(f, "refused {number} {word}"),
+        }
     }
 }

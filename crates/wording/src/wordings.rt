@@ -1,17 +1,36 @@
 // The text of an answer.
-ghost use Rattle.std.specs.Prelude.{◌≡◌, IfOk, string_bytes};
-ghost use Rattle.wording.specs.Answers.{line_text, answer_text};
+ghost use Rattle.std.specs.Prelude.{◌≡◌, Some, IfOk, string_bytes};
+ghost use Rattle.wording.specs.Answers.{answer_text};
 
 use super::answers::Answer;
-use super::refused::refusal_text;
-use super::row_texts::row_text;
+use super::refused::Told;
+use super::row_texts::WorkedOut;
 use std::alloc::{AllocError, Global};
+use std::fmt;
 
-// What is told of a line by its number.
-fn line_text(heap: Global, line: usize, told: &str) -> Result<String, AllocError>
-    ensures { IfOk result (λ text. string_bytes text ≡ line_text line told.now) }
-{
-    format!(in heap; "line {line}: {told}")
+// An answer as it is told; the row is the one that was worked out, if the answer is of one.
+#[derive(Clone, Copy)]
+struct Worded<'a> {
+    answer: Answer,
+    row: &'a [u8],
+}
+
+impl fmt::Display for Worded<'_> {
+    ghost output = { λ worded. Some (answer_text worded.answer worded.row.now) };
+
+    fn fmt<W: fmt::Write>(&self, f: &mut fmt::Formatter<W>) -> fmt::Result {
+        match self.answer {
+            Answer::Entered => f.write_str("ok"),
+            Answer::WorkedOut { letter, place } => {
+                let row = self.row;
+                f.write(WorkedOut { row, letter, place })
+            }
+            Answer::Passed => f.write_str("pass"),
+            Answer::Refused(refusal) => f.write(Told(refusal)),
+            Answer::Unclear { line } => write!(f, "line {line}: not understood"),
+            Answer::NoStart { line } => write!(f, "line {line}: no start"),
+        }
+    }
 }
 
 // The text of an answer, without a line feed; the row is the one that was worked out, if the answer is of one. Where memory fails,
@@ -19,12 +38,6 @@ fn line_text(heap: Global, line: usize, told: &str) -> Result<String, AllocError
 pub fn answer_text(heap: Global, answer: Answer, row: &[u8]) -> Result<String, AllocError>
     ensures { IfOk result (λ text. string_bytes text ≡ answer_text answer row.now) }
 {
-    match answer {
-        Answer::Entered => String::from_str(heap, "ok"),
-        Answer::WorkedOut { letter, place } => row_text(heap, row, letter, place),
-        Answer::Passed => String::from_str(heap, "pass"),
-        Answer::Refused(refusal) => refusal_text(heap, refusal),
-        Answer::Unclear { line } => line_text(heap, line, "not understood"),
-        Answer::NoStart { line } => line_text(heap, line, "no start"),
-    }
+    let worded = Worded { answer, row };
+    format!(in heap; "{worded}")
 }
