@@ -16,7 +16,9 @@ use Rattle.rules.specs.Rows.{Breaks}
 use Rattle.rows.specs.Finding.{HighestAt, FoundFrom, Reached}
 use Rattle.rows.specs.WorkingOut.{FirstOfGround}
 use Rattle.rows.proofs.Grounds.{reached_none, reached_joined, reached_kept, first_of_ground}
-use Rattle.alfa.proofs.Searches.{FirstPassing, below_top, below_from_kmh, highest_speed, first_rule}
+use Rattle.codes.proofs.Firsts.{FirstPassing}
+use Rattle.rules.proofs.FirstRule.{first_rule}
+use Rattle.alfa.proofs.Searches.{below_top, below_from_kmh, highest_speed}
 use Rattle.alfa.proofs.Tests.{allows, fits, decides_fits, decides_obeys, decides_allows}
 use Rattle.alfa.proofs.Solving.{code_from, no_speed, looked_at, stops, ground_back, ground_begin, highest_code, row_back, highest_row, fails, break_from, first_break}
 

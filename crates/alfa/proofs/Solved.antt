@@ -31,7 +31,7 @@ use Rattle.alfa.specs.declared.table.Example.TheVariants.{Highest, NoRow, Passes
 use Rattle.alfa.specs.Sheets.{track_for, mark_for}
 use Rattle.alfa.specs.Examples.{Holds}
 use Rattle.alfa.specs.Table.{table}
-use Rattle.alfa.proofs.Searches.{FirstPassing, first_class}
+use Rattle.codes.proofs.Firsts.{FirstPassing, first_class}
 use Rattle.alfa.proofs.Tests.{decides_allows}
 use Rattle.alfa.proofs.Solving.{ground_begin, highest_row, by_changes, work, four, verdict, judge, class_told, classify, solve}
 use Rattle.alfa.proofs.Rows.{Judged, begins_ground, row_found, row_judged}

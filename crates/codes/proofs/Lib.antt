@@ -1,2 +1,3 @@
+pub mod Firsts
 mod Edges
 pub mod Numbered

@@ -7,5 +7,5 @@ mod refusals;
 mod speeds;
 
 pub use gradients::Class;
-pub use refusals::{BookFault, FileFault, RecordFault, Refusal};
+pub use refusals::{BookFault, FileFault, RecordFault, Refusal, Rule};
 pub use speeds::{Code, Speed};

@@ -1,6 +1,39 @@
 // The refusals of the whole library, by number.
 ghost use Rattle.std.specs.Prelude.{◌≡◌};
-ghost use Rattle.codes.specs.Refusals.{notice};
+ghost use Rattle.codes.specs.Refusals.{rule_number, notice};
+
+// The five rules for the code of an interval, in the order in which they are tried.
+#[derive(Clone, Copy, Debug, PartialEq, Eq, PartialOrd, Ord)]
+pub enum Rule {
+    // 1: a restriction that touches the interval is not exceeded
+    Touching = 1,
+    // 2: a train is down to the speed of a restriction ahead where that begins
+    Ahead = 2,
+    // 3: a train stops before the mark by service braking
+    Service = 3,
+    // 4: a train stops before the danger point by emergency braking
+    Stopping = 4,
+    // 5: a train is down to the code of the next interval where that ends
+    Next = 5,
+}
+
+impl Rule {
+    // The five rules, in order.
+    pub const ALL: [Rule; 5] = [
+        Rule::Touching,
+        Rule::Ahead,
+        Rule::Service,
+        Rule::Stopping,
+        Rule::Next,
+    ];
+
+    // The number of the rule, 1 to 5.
+    pub fn number(self) -> u8
+        ensures { result ≡ rule_number self }
+    {
+        self as u8
+    }
+}
 
 // Why a call was refused. A refusal leaves everything as it was, unless the call says otherwise.
 #[derive(Clone, Copy, Debug, PartialEq, Eq)]
@@ -28,7 +61,7 @@ pub enum Refusal {
     // 11: a row has a byte that is no code
     Byte,
     // 12: a row breaks a rule; the first broken rule, and the place of the interval that breaks it
-    Unlawful { interval: usize, rule: u8 },
+    Unlawful { interval: usize, rule: Rule },
     // 13: no row is lawful
     NoRow,
     // 14: a train is above the approach code, or is made above 120 km/h

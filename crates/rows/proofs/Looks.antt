@@ -46,8 +46,6 @@ module _ (track : Track) (mark : Mark) (E : Emergencies) (D : Services) where
             | no further ↦ known i (omega arith) high
           ]
       kept_on obeys (Some found) known = record {
-        rule = known.rule;
-        numbered = known.numbered;
         behind = let b = known.behind in omega arith;
         within = known.within;
         earlier = λ i low less. elim (ℕ_discrete j i) [
@@ -60,14 +58,12 @@ module _ (track : Track) (mark : Mark) (E : Emergencies) (D : Services) where
 
       pub known_more : (known r : Option Break) → Known track mark E D approach row (suc j) known → Looked caps (code_at approach row j) j known r → Known track mark E D approach row j r
       known_more known r behind (obeyed obeys) = kept_on obeys known behind
-      known_more known r behind (breaks n broken) = record {
-        rule = broken.rule;
-        numbered = broken.numbered;
+      known_more known r behind (breaks rule broken) = record {
         behind = omega arith;
         within = within;
         earlier = λ i low less. absurd (omega arith);
         before = λ other less. (obeys_cap j (get_or row j Stop) caps five (code_at approach row j) other).1 (broken.before other less);
-        broken = λ obeys. let le = (obeys_cap j (get_or row j Stop) caps five (code_at approach row j) broken.rule).0 obeys in let above = broken.above in omega arith;
+        broken = λ obeys. let le = (obeys_cap j (get_or row j Stop) caps five (code_at approach row j) rule).0 obeys in let above = broken.above in omega arith;
       }
 
     -- the same at an interval k that is the j-th, with its code and that of the next
@@ -81,7 +77,7 @@ module _ (track : Track) (mark : Mark) (E : Emergencies) (D : Services) where
     pub lawful_from_known : length row ≡ mark.interval → Known track mark E D approach row 0 None → Lawful track mark E D approach row
     lawful_from_known size known = record { size = size; obeys = λ j l. known j (omega arith) l }
 
-    pub breaks_from_known : (found : Break) → (known : Known track mark E D approach row 0 (Some found)) → Breaks track mark E D approach row found.interval known.rule
+    pub breaks_from_known : (found : Break) → (known : Known track mark E D approach row 0 (Some found)) → Breaks track mark E D approach row found.interval found.rule
     breaks_from_known found known = record {
       within = known.within;
       earlier = λ i less. known.earlier i (omega arith) less;

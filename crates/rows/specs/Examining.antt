@@ -1,21 +1,20 @@
 -- What examining a row answers. Assumes nothing.
---     Broken caps c n            rule n is the first whose cap is below code c
---     broken_number caps c       the number of that rule, if there is one
+--     Broken caps c rule         the rule is the first whose cap is below code c
+--     broken_rule caps c         that rule, if there is one
 --     Looked caps c j before r   interval j with code c was looked at: r is its first broken rule, else what was known before
 --     Known .. j r               r is the first break among the intervals behind the j-th, if there is one
 --     Examined .. r              r is a pass of a lawful row, or the first refusal that is due
-use Rattle.std.specs.Prelude.{◌≡◌, ℕ, ◌<◌, ◌≤◌, List, [], ◌∷◌, length, Some, None, Ok, Err, Option, Result, slice_index_or, nat_lt}
+use Rattle.std.specs.Prelude.{◌≡◌, ℕ, ◌<◌, ◌≤◌, List, [], ◌∷◌, length, Some, None, Ok, Err, Option, Result, slice_index_or}
 use Rattle.std.specs.List.{find}
-use Rattle.std.specs.Option.{option_map}
 use Rattle.codes.specs.declared.speeds.Speed.{Speed}
 use Rattle.codes.specs.declared.speeds.Code.{Code}
 use Rattle.codes.specs.declared.speeds.Code.TheVariants.{Stop}
 use Rattle.codes.specs.declared.refusals.Refusal.{Refusal}
-use Rattle.codes.specs.Speeds.{byte}
+use Rattle.codes.specs.Speeds.{byte, lower}
 use Rattle.codes.specs.Refusals.{notice}
 use Rattle.laws.specs.Books.{Emergencies, Services}
 use Rattle.rules.specs.Tracks.{Track, Mark}
-use Rattle.rules.specs.Rules.{Rule, touching, ahead, service, stopping, next, rule_number, Obeys, Allowed, code_at, Lawful}
+use Rattle.rules.specs.Rules.{Rule, touching, ahead, service, stopping, next, rules, rule_number, Obeys, Allowed, code_at, Lawful}
 use Rattle.rules.specs.Rows.{Breaks}
 use Rattle.rows.specs.declared.targets.Target.{Target}
 use Rattle.rows.specs.declared.passing.FiveCaps.{FiveCaps}
@@ -34,27 +33,21 @@ cap caps service = caps.four.service
 cap caps stopping = caps.four.stopping
 cap caps next = caps.next
 
-pub record Broken (caps : FiveCaps) (c : Code) (n : ℕ) : Type 0 where
-  pub rule : Rule
-  pub numbered : rule_number rule ≡ n
+pub record Broken (caps : FiveCaps) (c : Code) (rule : Rule) : Type 0 where
   pub above : byte (cap caps rule) < byte c
   pub before : (other : Rule) → rule_number other < rule_number rule → byte c ≤ byte (cap caps other)
 
--- the caps by the numbers of their rules, in the order in which the rules are tried
-abbrev pub caps_by_number : FiveCaps → List (ℕ × Code)
-caps_by_number caps = (1, caps.four.touching) ∷ (2, caps.four.ahead) ∷ (3, caps.four.service) ∷ (4, caps.four.stopping) ∷ (5, caps.next) ∷ []
+-- the first rule whose cap is below code c, in the order in which the rules are tried
+abbrev pub broken_rule : FiveCaps → Code → Option Rule
+broken_rule caps c = find (λ rule. lower (cap caps rule) c) rules
 
--- the number of the first rule whose cap is below code c
-abbrev pub broken_number : FiveCaps → Code → Option ℕ
-broken_number caps c = option_map (λ (by_number : ℕ × Code). by_number.0) (find (λ (by_number : ℕ × Code). nat_lt (byte by_number.1) (byte c)) (caps_by_number caps))
-
-abbrev pub FirstBroken : FiveCaps → Code → Option ℕ → Type 0
+abbrev pub FirstBroken : FiveCaps → Code → Option Rule → Type 0
 FirstBroken caps c None = WithinFive caps c
-FirstBroken caps c (Some n) = Broken caps c n
+FirstBroken caps c (Some rule) = Broken caps c rule
 
 pub data Looked (caps : FiveCaps) (c : Code) (j : ℕ) (known : Option Break) : Option Break → Type 0 where
   obeyed : WithinFive caps c → Looked caps c j known known
-  breaks : (n : ℕ) → Broken caps c n → Looked caps c j known (Some (record { interval = j; rule = n }))
+  breaks : (rule : Rule) → Broken caps c rule → Looked caps c j known (Some (record { interval = j; rule = rule }))
 
 module _ (track : Track) (mark : Mark) (E : Emergencies) (D : Services) (approach : Speed) (row : List Code) where
   abbrev pub AllowedAt : ℕ → Type 0
@@ -62,13 +55,11 @@ module _ (track : Track) (mark : Mark) (E : Emergencies) (D : Services) (approac
 
   -- a break, with what comes before it from the j-th interval on
   pub record BreaksFrom (j : ℕ) (found : Break) : Type 0 where
-    pub rule : Rule
-    pub numbered : rule_number rule ≡ found.rule
     pub behind : j ≤ found.interval
     pub within : found.interval ≤ mark.interval
     pub earlier : (i : ℕ) → j ≤ i → i < found.interval → AllowedAt i
-    pub before : (other : Rule) → rule_number other < rule_number rule → Obeys track mark E D found.interval (code_at approach row found.interval) (slice_index_or row found.interval Stop) other
-    pub broken : Obeys track mark E D found.interval (code_at approach row found.interval) (slice_index_or row found.interval Stop) rule → ⊥
+    pub before : (other : Rule) → rule_number other < rule_number found.rule → Obeys track mark E D found.interval (code_at approach row found.interval) (slice_index_or row found.interval Stop) other
+    pub broken : Obeys track mark E D found.interval (code_at approach row found.interval) (slice_index_or row found.interval Stop) found.rule → ⊥
 
   abbrev pub Known : ℕ → Option Break → Type 0
   Known j None = (i : ℕ) → j ≤ i → i ≤ mark.interval → AllowedAt i

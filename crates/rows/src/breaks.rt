@@ -1,11 +1,11 @@
 // The first break of a row.
-use codes::Refusal;
+use codes::{Refusal, Rule};
 
-// An interval by its place, 0 for the approach, and the number of the first rule that it breaks.
+// An interval by its place, 0 for the approach, and the first rule that it breaks.
 #[derive(Clone, Copy, Debug, PartialEq, Eq)]
 pub struct Break {
     pub interval: usize,
-    pub rule: u8,
+    pub rule: Rule,
 }
 
 // A row is refused by its first break.

@@ -5,32 +5,24 @@ ghost use Rattle.codes.specs.Speeds.{code_of};
 ghost use Rattle.rows.specs.Drawings.{drawing_of};
 ghost use Rattle.rows.specs.Targets.{track_of, mark_of};
 ghost use Rattle.rows.specs.Passing.{codes_of, read_code};
-ghost use Rattle.rows.specs.Examining.{broken_number, Looked, Known, Examined};
+ghost use Rattle.rows.specs.Examining.{broken_rule, Looked, Known, Examined};
 
 use super::asking::asked_for;
 use super::breaks::Break;
 use super::passing::FiveCaps;
 use super::survey::Survey;
 use books::BrakingBook;
-use codes::{Code, Refusal, Speed};
+use codes::{Code, Refusal, Rule, Speed};
 use rules::Line;
 
-// The number of the first rule whose cap is below the code, in the order in which the rules are tried.
-fn broken_rule(caps: &FiveCaps, code: Code) -> Option<u8>
-    ensures { result ≡ broken_number caps.now code }
+// The first rule whose cap is below the code, in the order in which the rules are tried.
+fn broken_rule(caps: &FiveCaps, code: Code) -> Option<Rule>
+    ensures { result ≡ broken_rule caps.now code }
 {
-    let four = &caps.four;
-    let by_rule = [
-        (1, four.touching),
-        (2, four.ahead),
-        (3, four.service),
-        (4, four.stopping),
-        (5, caps.next),
-    ];
-    by_rule
+    Rule::ALL
         .iter()
-        .find(|by_rule| by_rule.1 < code)
-        .map(|by_rule| by_rule.0)
+        .copied()
+        .find(|rule| caps.cap(*rule) < code)
 }
 
 // Whether a byte is that of a code.

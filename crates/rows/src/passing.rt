@@ -3,9 +3,10 @@ ghost use Rattle.std.specs.Prelude.{◌≡◌, ℕ, ◌+◌, ◌-◌, ◌^◌, �
 ghost use Rattle.rules.specs.Tracks.{begin_of, end_of};
 ghost use Rattle.rows.specs.Targets.{track_of};
 ghost use Rattle.rows.specs.Passing.{OnlyStop, Joins};
+ghost use Rattle.rows.specs.Examining.{cap};
 
 use super::targets::Target;
-use codes::Code;
+use codes::{Code, Rule};
 use rules::{Limits, Line, highest_code};
 
 // How far a pass has come. It stands at an interval; all behind it were passed.
@@ -28,6 +29,21 @@ pub struct Pass {
 pub struct FiveCaps {
     pub four: Limits,
     pub next: Code,
+}
+
+impl FiveCaps {
+    // The highest code by one of the rules.
+    pub(super) fn cap(&self, rule: Rule) -> Code
+        ensures { result ≡ cap self.now rule }
+    {
+        match rule {
+            Rule::Touching => self.four.touching,
+            Rule::Ahead => self.four.ahead,
+            Rule::Service => self.four.service,
+            Rule::Stopping => self.four.stopping,
+            Rule::Next => self.next,
+        }
+    }
 }
 
 // Where interval j begins, from where it ends.

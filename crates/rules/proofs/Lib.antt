@@ -4,3 +4,4 @@ pub mod Lowest
 pub mod Limited
 pub mod Moved
 mod Reading
+pub mod FirstRule

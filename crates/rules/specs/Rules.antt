@@ -15,6 +15,9 @@ use Rattle.codes.specs.declared.speeds.Code.{Code}
 use Rattle.codes.specs.declared.speeds.Code.TheVariants.{Stop, Go}
 use Rattle.codes.specs.declared.gradients.Class.{Class}
 use Rattle.codes.specs.Speeds.{kmh, byte}
+pub use Rattle.codes.specs.declared.refusals.Rule.{Rule}
+pub use Rattle.codes.specs.declared.refusals.Rule.TheVariants.{Touching as touching, Ahead as ahead, Service as service, Stopping as stopping, Next as next}
+pub use Rattle.codes.specs.Refusals.{rule_number}
 use Rattle.laws.specs.Books.{Emergencies, Services}
 use Rattle.rules.specs.Tracks.{Track, Mark, begin_of, end_of, length_of, class_over}
 
@@ -30,21 +33,6 @@ Down E k (Go v) to metres = (kmh v ≤ byte to) ⊎ (E k v to ≤ metres)
 abbrev pub Halts : (Speed → ℕ) → Code → ℕ → Type 0
 Halts distance Stop metres = Unit {0}
 Halts distance (Go v) metres = distance v ≤ metres
-
-pub data Rule : Type 0 where
-  touching : Rule
-  ahead : Rule
-  service : Rule
-  stopping : Rule
-  next : Rule
-
--- the rules by number, in the order in which they are tried
-abbrev pub rule_number : Rule → ℕ
-rule_number touching = 1
-rule_number ahead = 2
-rule_number service = 3
-rule_number stopping = 4
-rule_number next = 5
 
 abbrev pub code_rules : List Rule
 code_rules = touching ∷ ahead ∷ service ∷ stopping ∷ []

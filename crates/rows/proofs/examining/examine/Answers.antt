@@ -1,11 +1,10 @@
-use Rattle.std.proofs.Common.{ℕ, [], ◌∷◌, ◌∙◌, subst}
+use Rattle.std.proofs.Common.{◌∙◌}
 use Rattle.std.proofs.lemmas.List.{length-map}
 use Rattle.std.proofs.lemmas.Result.{err_from_is_err_and}
 use Rattle.std.proofs.lemmas.Bool.Decides.{not_from_Decides}
-use Rattle.rows.specs.Drawings.{drawing_of}
 use Rattle.rows.specs.Targets.{track_of, mark_of}
 use Rattle.rows.specs.Passing.{read_code, codes_of}
-use Rattle.rows.specs.Examining.{Failed, unasked, strange, unlawful}
+use Rattle.rows.specs.Examining.{unasked, strange, unlawful}
 use Rattle.rows.proofs.Bytes.{spells_decided}
 use Rattle.rows.proofs.Looks.{lawful_from_known, breaks_from_known}
 use Rattle.rows.proofs.examining.examine.Goals as goal
@@ -40,7 +39,6 @@ returns-in-Some g c =
     let D = g.B.BrakingBook.services book in
     let found = c.in-Some.found in
     let known = c.in-Some.ensures in
-    let at = λ (rule : ℕ). Failed (drawing_of line) c.args.mark c.args.approach E D c.args.row.now (12, found.interval ∷ rule ∷ []) in
-    rw c.into.ensures (subst at known.numbered (unlawful c.in_ok-target.target c.in_ok-target.speed c.in_ok-target.ensures.asked c.in_ok-target.ensures.sized
-    ((spells_decided c.args.row.now c.are_codes.result c.are_codes.ensures).0 c.if-not-are_codes.false) found.interval known.rule
-    (breaks_from_known (track_of line) (mark_of c.in_ok-target.target) E D c.in_ok-target.speed (codes_of c.args.row.now) found known)))
+    rw c.into.ensures (unlawful c.in_ok-target.target c.in_ok-target.speed c.in_ok-target.ensures.asked c.in_ok-target.ensures.sized
+    ((spells_decided c.args.row.now c.are_codes.result c.are_codes.ensures).0 c.if-not-are_codes.false) found.interval found.rule
+    (breaks_from_known (track_of line) (mark_of c.in_ok-target.target) E D c.in_ok-target.speed (codes_of c.args.row.now) found known))
