@@ -69,3 +69,7 @@ module _ {V : Type 0} {g : Grading V} (laws : Lawful g) (entries : List (Entry V
             let held = λ (x : ℕ) (within : (a < x) × (x < b)). each.0 h x (omega arith) (omega arith) in
             changes.1 (each.0 h a (omega arith) l, All-weaker (ContainsAt entries) (AtEnds (Held z)) (λ entry has. (held entry.from, held entry.to)) entries (all_has_itself entries)),
       ))
+
+-- what is found at the begin and at the changes is the stretch's value
+pub worst_passed : {V : Type 0} {g : Grading V} (laws : Lawful g) (entries : List (Entry V)) (a b : ℕ) (worst : V) → a < b → worst ≡ fold (worsened_by g entries a b) (metre_value g entries a) entries → worst ≡ stretch_value g entries a b
+worst_passed laws entries a b worst l found = found ∙ all_passed laws entries a b l

@@ -32,6 +32,10 @@ pub fn value_at<V: Graded>(entries: &[Entry<V>], metre: u64) -> V
         .iter()
         .filter(|entry| entry.covers(metre))
         .map(|entry| entry.value)
-        .reduce(|worst, value| worst.worse(value))
+        .reduce(
+            |worst: V, value: V| -> V
+                ensures { result ≡ V.grading.worse worst value }
+            { worst.worse(value) },
+        )
         .unwrap_or(V::UNDRAWN)
 }

@@ -3,6 +3,7 @@
 // The value changes only where an entry begins or ends, so it is asked for at the stretch's begin and at each change
 // within it: how long that takes depends on the number of entries, and not on that of the metres.
 ghost use Rattle.std.specs.Prelude.{◌≡◌, fold};
+ghost use Rattle.ground.specs.Grading.{Lawful};
 ghost use Rattle.ground.specs.Ground.{metre_value, stretch_value};
 ghost use Rattle.ground.specs.Steps.{worsened_at, worsened_by};
 ghost use Rattle.ground.specs.StretchLaws.{StretchLaws};
@@ -31,7 +32,8 @@ fn worsened_by<V: Graded>(entries: &[Entry<V>], from: u64, to: u64, worst: V, en
 
 // The worst value at the begin and at the changes within, where the stretch has metres.
 fn worst_at_changes<V: Graded>(entries: &[Entry<V>], from: u64, to: u64) -> V
-    ensures { result ≡ fold (worsened_by V.grading entries.now from to) (metre_value V.grading entries.now from) entries.now }
+    ensures value { result ≡ fold (worsened_by V.grading entries.now from to) (metre_value V.grading entries.now from) entries.now }
+    ensures lawful { Lawful V.grading }
 {
     entries
         .iter()
@@ -41,6 +43,7 @@ fn worst_at_changes<V: Graded>(entries: &[Entry<V>], from: u64, to: u64) -> V
 }
 
 // The worst value of the metres `from` to `to` - 1; a stretch without metres counts as undrawn ground.
+#[tactic(auto, using(crate::proofs::Changes::worst_passed))]
 pub fn worst_over<V: Graded>(entries: &[Entry<V>], from: u64, to: u64) -> V
     ensures value { result ≡ stretch_value V.grading entries.now from to }
     ensures laws { StretchLaws V.grading }

@@ -1,5 +1,4 @@
 use Rattle.std.proofs.Common.{sym, ◌∙◌, arith}
-use Rattle.ground.proofs.Changes.{all_passed}
 use Rattle.ground.proofs.Laws.{stretches}
 use Rattle.ground.proofs.stretches.worst_over.Goals as goal
 
@@ -11,9 +10,5 @@ returns-then-to-from g c =
       laws = laws;
     }
 
-pub returns : goal.returns
-returns g c =
-    record {
-      value = c.worst_at_changes.ensures ∙ all_passed g.met.V.Graded.lawful c.args.entries.now c.args.from c.args.to (omega arith);
-      laws = stretches g.met.V.Graded.lawful;
-    }
+pub returns-clause-laws : goal.returns-clause-laws
+returns-clause-laws g c = stretches g.met.V.Graded.lawful
