@@ -34,9 +34,6 @@ module _ (line : Line) (target : Target) (held : HeldBy line.start (lengths_of l
       }
 
   module _ (stage : Stage line target E D pass) (behind : 1 ≤ pass.interval) (limits : Limits) (caps : Caps (track_of line) (mark_of target) E D pass.interval limits) where
-    before : ℕ
-    before = pass.interval - 1
-
     here : suc (pass.interval - 1) ≡ pass.interval
     here = omega arith
 
