@@ -1,24 +1,6 @@
-// What is checked before a record is entered: the room in its table, and its figures in metres.
-ghost use Rattle.std.specs.Prelude.{◌≡◌, None};
-ghost use Rattle.codes.specs.Refusals.{told};
-ghost use Rattle.entering.specs.Faults.{ruled};
-ghost use Rattle.entering.specs.Entering.{room_fault, impossible_length, impossible_stretch, out_of_range};
-
-use codes::Refusal;
-
-// Whether there is room for a record behind those in use. Refused by 10 where the table is shorter than its count, and by 1
-// where the table or the limit is used up.
-pub(super) fn check_room<T>(table: &[T], count: usize, limit: usize) -> Result<(), Refusal>
-    ensures { told result ≡ ruled (room_fault table.now count limit None) tt }
-{
-    if table.len() < count {
-        return Err(Refusal::Size);
-    }
-    if count >= limit || count >= table.len() {
-        return Err(Refusal::Full);
-    }
-    Ok(())
-}
+// What is checked of a record's figures in metres before it is entered.
+ghost use Rattle.std.specs.Prelude.{◌≡◌};
+ghost use Rattle.entering.specs.Entering.{impossible_length, impossible_stretch, out_of_range};
 
 // Whether no interval is so many metres long: not 1 to 5,000.
 pub(super) fn is_impossible_length(metres: u32) -> bool

@@ -6,8 +6,8 @@ ghost use Rattle.ground.specs.Tables.{contents};
 ghost use Rattle.entering.specs.Faults.{ruled};
 ghost use Rattle.entering.specs.Entering.{room_fault};
 
-use super::checks::check_room;
 use codes::Refusal;
+use ground::check_room;
 
 // A record as a caller draws it.
 pub trait Draft: Copy {

@@ -78,6 +78,7 @@ impl ClosedSheet {
             });
         }
         let base = self.base;
+        // Both arms take something along, the sheet or the row; `map_err` and `?` were tried, and their proof did not close.
         match judge(base, lent, mark, approach, row, book) {
             Err(why) => Err(Refused { sheet: self, why }),
             Ok(fixed) => {

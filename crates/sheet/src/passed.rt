@@ -88,6 +88,7 @@ impl<'b, B: BrakingBook> PassedSheet<'b, B> {
     ) -> Result<RunningSheet<'b, B, T>, Refused<(PassedSheet<'b, B>, T)>>
         ensures { SetsOut (B.BrakingBook.emergencies (book_of self.entry)) T.Train.numbers (set_off_fault (passed_heading self.entry) gradients.now row_table.now (pass_of self.entry) (T.Train.numbers train)) self.entry train gradients.now row_table.now result }
     {
+        // The sheet and the train go with the refusal or under way, so that no closure can take them for one of the two.
         match self.way_for(&train, gradients, row_table) {
             Err(why) => Err(Refused {
                 sheet: (self, train),
