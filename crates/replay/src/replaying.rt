@@ -35,14 +35,8 @@ pub fn replay<'b, B: BrakingBook, T: Train + Drop>(
     ensures replays { Replays (B.BrakingBook.emergencies book.now) (B.BrakingBook.services book.now) T.Train.numbers start (five_tables intervals.old gradients.old restrictions.old marks.old row_table.old) (map (call_of T.Train.numbers) calls.items) result (five_tables intervals.new gradients.new restrictions.new marks.new row_table.new) }
     ensures determined { Determined (B.BrakingBook.emergencies book.now) (B.BrakingBook.services book.now) }
 {
-    let open = match OpenSheet::blank(start) {
-        Ok(sheet) => sheet,
-        Err(why) => return Err(Failure::Refused(why)),
-    };
-    let Ok(mut answers) = Vec::with_capacity(heap, calls.len()) else {
-        return Err(Failure::Memory);
-    };
-    let mut sheet = AnySheet::Open(open);
+    let mut sheet = AnySheet::Open(OpenSheet::blank(start)?);
+    let mut answers = Vec::with_capacity(heap, calls.len())?;
     for call in calls {
         let (after, answer) = perform(
             sheet,
