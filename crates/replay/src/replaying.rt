@@ -20,7 +20,7 @@ use trains::Train;
 // Makes a blank sheet with its start, and then the calls, one after the other, over the caller's five tables, of any length and
 // content. One book serves throughout. Every call gets an answer; one that the sheet's state does not take is told so, changes nothing,
 // and the list goes on. Refused by 6 where the start is not 1,000 to 100,000; want of memory is told before the first call is made. In
-// both cases nothing has changed.
+// both cases nothing has changed. The tables are the caller's own, and come one by one, as in every call.
 pub fn replay<'b, B: BrakingBook, T: Train + Drop>(
     heap: Global,
     start: u32,
