@@ -86,6 +86,7 @@ pub fn depart<B: BrakingBook, T: Train>(
 
 // Moves a train one metre on: it rolls the metre, with that metre's class. If it then is where an interval up to the row's last
 // begins, and the code of that is not the one told last, it hears that code with the class of the 170 m behind. Answers where it is.
+// The line's tables and the row come one by one, as their owner lends them.
 pub fn advance<B: BrakingBook, T: Train>(
     train: &mut T,
     book: &B,

@@ -14,7 +14,8 @@ use rules::{Interval, StopMark};
 use sheet::{OpenSheet, Refused};
 use trains::Train;
 
-// A call over an open sheet. Entering and striking in the lent part of a table leave the rest as it was.
+// A call over an open sheet. Entering and striking in the lent part of a table leave the rest as it was. The tables come one by one,
+// since a proof loses what is written to a part of a slice behind two `&mut`.
 pub(super) fn on_open<'b, B: BrakingBook, T: Train + Drop>(
     mut sheet: OpenSheet,
     call: Call<T>,

@@ -15,7 +15,8 @@ use rules::{Interval, StopMark};
 use sheet::LentTables;
 use trains::Train;
 
-// A call over a sheet in any state. The book is the one that serves the sheet, if one does.
+// A call over a sheet in any state. The book is the one that serves the sheet, if one does. The tables come one by one, as an open
+// sheet takes them.
 pub(super) fn perform<'b, B: BrakingBook, T: Train + Drop>(
     sheet: AnySheet<'b, B, T>,
     call: Call<T>,

@@ -20,7 +20,7 @@ use trains::Train;
 // Makes a blank sheet with its start, and then the calls, one after the other, over the caller's five tables, of any length and
 // content. One book serves throughout. Every call gets an answer; one that the sheet's state does not take is told so, changes nothing,
 // and the list goes on. Refused by 6 where the start is not 1,000 to 100,000; want of memory is told before the first call is made. In
-// both cases nothing has changed.
+// both cases nothing has changed. The tables are the caller's own, and come one by one, as in every call.
 pub fn replay<'b, B: BrakingBook, T: Train + Drop>(
     heap: Global,
     start: u32,
@@ -35,14 +35,8 @@ pub fn replay<'b, B: BrakingBook, T: Train + Drop>(
     ensures replays { Replays (B.BrakingBook.emergencies book.now) (B.BrakingBook.services book.now) T.Train.numbers start (five_tables intervals.old gradients.old restrictions.old marks.old row_table.old) (map (call_of T.Train.numbers) calls.items) result (five_tables intervals.new gradients.new restrictions.new marks.new row_table.new) }
     ensures determined { Determined (B.BrakingBook.emergencies book.now) (B.BrakingBook.services book.now) }
 {
-    let open = match OpenSheet::blank(start) {
-        Ok(sheet) => sheet,
-        Err(why) => return Err(Failure::Refused(why)),
-    };
-    let Ok(mut answers) = Vec::with_capacity(heap, calls.len()) else {
-        return Err(Failure::Memory);
-    };
-    let mut sheet = AnySheet::Open(open);
+    let mut sheet = AnySheet::Open(OpenSheet::blank(start)?);
+    let mut answers = Vec::with_capacity(heap, calls.len())?;
     for call in calls {
         let (after, answer) = perform(
             sheet,

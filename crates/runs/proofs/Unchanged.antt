@@ -11,7 +11,7 @@ use Rattle.entering.specs.Faults.{first}
 use Rattle.sheet.specs.Sheets.{Heading, Tables, Sheet, drawn}
 use Rattle.sheet.specs.Faults.{submit_fault, lent_short, row_short, row_table_size}
 use Rattle.runs.specs.Orders.{Lent, lent_tables, Order, Call, Outcome, accepted, refusing}
-use Rattle.runs.specs.Orders.Order.{enter_interval, enter_gradient, enter_restriction, enter_mark, strike_gradient, strike_restriction, close, reopen, work_out, submit, set_off, step, leave}
+use Rattle.runs.specs.Orders.Order.{work_out, submit}
 use Rattle.runs.specs.Orders.Outcome.{not_taken}
 use Rattle.runs.specs.Runs.{fault}
 use Rattle.runs.specs.Law.{Sizes, WorkedRow, History, Enough, Right, entered, rows_after}
@@ -38,37 +38,16 @@ module _ (sizes : Sizes) (heading : Heading) (tables : Tables) (sound : Sound si
 
 module _ (E : Emergencies) (D : Services) (distances : Distances E D) (laws : Laws E D) (sizes : Sizes) (rows : List WorkedRow) (sought : ℕ) where
   right_not_taken : (h : History) (lent : Lent) (order : Order) → Right E D sizes h (record { lent = lent; order = order }) not_taken
-  right_not_taken h lent (enter_interval number metres) = tt
-  right_not_taken h lent (enter_gradient from to faldtal) = tt
-  right_not_taken h lent (enter_restriction from to speed) = tt
-  right_not_taken h lent (enter_mark number position danger) = tt
-  right_not_taken h lent (strike_gradient place) = tt
-  right_not_taken h lent (strike_restriction place) = tt
-  right_not_taken h lent close = tt
-  right_not_taken h lent reopen = tt
-  right_not_taken h lent (work_out mark approach bytes) = tt
   right_not_taken h lent (submit mark approach row) = λ has enough. inr refl
-  right_not_taken h lent (set_off train) = tt
-  right_not_taken h lent step = tt
-  right_not_taken h lent leave = tt
+  right_not_taken h lent _ = tt
 
   module _ (s : Sheet) (follows : Follows E D distances laws sizes rows sought s) (lent : Lent) where
     right_refused : (order : Order) (w : Refusal) → fault s (record { lent = lent; order = order }) ≡ Some w
         → Right E D sizes (history_on s rows sought) (record { lent = lent; order = order }) (refusing order (notice w))
-    right_refused (enter_interval number metres) w due = tt
-    right_refused (enter_gradient from to faldtal) w due = tt
-    right_refused (enter_restriction from to speed) w due = tt
-    right_refused (enter_mark number position danger) w due = tt
-    right_refused (strike_gradient place) w due = tt
-    right_refused (strike_restriction place) w due = tt
-    right_refused close w due = tt
-    right_refused reopen w due = tt
     right_refused (work_out mark approach bytes) w due = λ is. absurd (not_13 (lent_short s.heading (lent_tables lent s.tables)) w due is)
     right_refused (submit mark approach row) w due =
         λ has enough. absurd (let clash : Some w ≡ None = sym due ∙ enough_lent sizes s.heading s.tables follows.sound lent enough in let z : ◌≡◌ {A = ℕ} 0 1 = cc in omega arith)
-    right_refused (set_off train) w due = tt
-    right_refused step w due = tt
-    right_refused leave w due = tt
+    right_refused _ w due = tt
 
   module _ (s : Sheet) (follows : Follows E D distances laws sizes rows sought s) (call : Call) where
     abbrev Keeps : Outcome → Sheet → Type 0

@@ -13,7 +13,7 @@ pub enum EitherTrain<F, S> {
     Second(S),
 }
 
-// It does as the train that it holds.
+// It does as the train that it holds. The two arms call one method at two types, so that no line can stand for both.
 impl<F: Train, S: Train> Train for EitherTrain<F, S> {
     ghost numbers = { either F.Train.numbers S.Train.numbers };
 

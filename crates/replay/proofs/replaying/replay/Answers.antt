@@ -5,21 +5,21 @@ use Rattle.runs.proofs.Determined.{determined}
 use Rattle.replay.proofs.Replays.{sofar_none, sofar_more, replayed}
 use Rattle.replay.proofs.replaying.replay.Goals as goal
 
-pub returns-in-Err-clause-determined : goal.returns-in-Err-clause-determined
-returns-in-Err-clause-determined g c =
+pub returns-in_err-blank-clause-determined : goal.returns-in_err-blank-clause-determined
+returns-in_err-blank-clause-determined g c =
     let book = c.args.book.now in
     determined (g.B.BrakingBook.emergencies book) (g.B.BrakingBook.services book)
 
-pub returns-in_default : goal.returns-in_default
-returns-in_default g c =
+pub returns-in_err-answers-clause-determined : goal.returns-in_err-answers-clause-determined
+returns-in_err-answers-clause-determined g c =
     let book = c.args.book.now in
-    record { replays = (c.in-Ok.ensures.0, refl); determined = determined (g.B.BrakingBook.emergencies book) (g.B.BrakingBook.services book) }
+    determined (g.B.BrakingBook.emergencies book) (g.B.BrakingBook.services book)
 
 pub loop-call-init : goal.loop-call-init
 loop-call-init g c =
-    let none = c.in-Ok-with_capacity.ensures.items in
-    let room = c.in-Ok-with_capacity.ensures.capacity in
-    let short = c.in-Ok-with_capacity.ensures.len in
+    let none = c.in_ok-answers.ensures.items in
+    let room = c.in_ok-answers.ensures.capacity in
+    let short = c.in_ok-answers.ensures.len in
     let all = ap length c.into_iter-call-iterator.ensures.into_iter_gives.0 in
     (tt, tt, refl, omega arith, tt, rw none sofar_none)
 
@@ -39,23 +39,17 @@ loop-call-preserved g c =
           inv.5 c.perform-after.ensures.made c.push_reserved.ensures.items,
     )
 
-pub push_reserved-requires : goal.push_reserved-requires
-push_reserved-requires g c =
-    let inv = c.loop-call.invariant in
-    let fewer = ap length c.in-Some.ensures.steps.0 in
-    omega arith
-
 pub returns : goal.returns
 returns g c =
     let book = c.args.book.now in
     let inv = c.loop-call.invariant in
-    let blank = c.in-Ok.ensures in
+    let blank = c.in_ok-blank.ensures in
     let none = sym c.in-None.ensures.steps.0 ∙ c.loop-call.call-iterator.rest.ok.0 in
     record {
       replays = replayed (g.B.BrakingBook.emergencies book) (g.B.BrakingBook.services book) (g.B.BrakingBook.distances book) (g.B.BrakingBook.laws book) g.T.Train.numbers c.args.start
           (five_tables c.args.intervals.now c.args.gradients.now c.args.restrictions.now c.args.marks.now c.args.row_table.now)
           (five_tables c.loop-call.intervals c.loop-call.gradients c.loop-call.restrictions c.loop-call.marks c.loop-call.row_table)
-          c.in-Ok.sheet (vec_items c.args.calls) c.loop-call.yielded (into_iter_items c.loop-call.call-iterator) (record { answers = c.loop-call.answers; sheet = c.loop-call.sheet })
+          c.in_ok-blank.field-0 (vec_items c.args.calls) c.loop-call.yielded (into_iter_items c.loop-call.call-iterator) (record { answers = c.loop-call.answers; sheet = c.loop-call.sheet })
           blank.0 blank.1 (inv.2 ∙ c.into_iter-call-iterator.ensures.into_iter_gives.0) (sym none) inv.5;
       determined = determined (g.B.BrakingBook.emergencies book) (g.B.BrakingBook.services book);
     }
