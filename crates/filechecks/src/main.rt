@@ -50,6 +50,7 @@ fn tell_shuffled(rt: &HostRuntime, file: &[u8]) -> anyhow::Result<()> {
 // The damaged files: how many are refused as is due, and which are not.
 fn tell_damaged(rt: &HostRuntime, file: &[u8]) -> anyhow::Result<()> {
     let mut as_due: usize = 0;
+    // counted by hand, since memory for a damaged file may fail and ends the run
     for case in CASES {
         if is_as_due(rt.alloc(), file, case)? {
             as_due = as_due.saturating_add(1);

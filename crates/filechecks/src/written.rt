@@ -84,6 +84,7 @@ pub fn figures_back(file: &[u8]) -> Result<usize, Refusal> {
 // The records of a written file in another order, every fifth from the front, with a remark before every hundredth.
 pub fn shuffled(heap: Global, file: &[u8]) -> anyhow::Result<Vec<u8>> {
     let mut other = Vec::new(heap);
+    // a number in the new order, and not a place in a slice
     for n in 0..RECORDS {
         if n % 100 == 0 {
             other.extend_from_slice(REMARK)?;
