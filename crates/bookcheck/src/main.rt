@@ -19,9 +19,8 @@ fn line(heap: Global, outcome: Result<(), Fault>) -> Result<String, AllocError>
 {
     match outcome {
         Ok(()) => String::from_str(heap, "accepted 594"),
-        Err(fault) => {
-            let number = fault.refusal.number();
-            let place = fault.place;
+        Err(Fault { refusal, place }) => {
+            let number = refusal.number();
             format!(in heap; "refused {number} at {place}")
         }
     }

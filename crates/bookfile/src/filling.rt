@@ -46,6 +46,7 @@ pub(super) fn fill(file: &[u8], table: &mut [u16; FIGURE_COUNT]) -> Result<(), F
 {
     let mut reader = Reader::new(file);
     'records: loop {
+        // asked for before the record is read, since a refusal is due where the record begins
         let place = reader.place();
         let Some(item) = at(place, reader.next())? else {
             return Ok(());

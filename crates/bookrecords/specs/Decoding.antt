@@ -1,6 +1,6 @@
 -- What the record at the front of some bytes says, or its first fault. Assumes nothing.
 --     number_at bytes i     the number in two bytes from place i
---     Numbered bytes p      the bytes begin with the number p.0, and p.1 stands behind it
+--     SplitOff bytes p      the bytes begin with the number p.0, and p.1 stands behind it
 --     torn bytes            no record stands there: one byte is left, or its length is below 2 or reaches past the bytes
 --     Whole bytes p         the record at the front is not torn, its kind is p.0 and its content p.1
 --     headed class from f   what f says of the class and the speed; else refused by 17
@@ -28,7 +28,7 @@ abbrev pub torn : List ℕ → Bool
 torn bytes = nat_lt (length bytes) 2 || nat_lt (number_at bytes 0) 2 || nat_lt (length bytes - 2) (number_at bytes 0)
 
 -- a number of two bytes was split off the bytes
-pub record Numbered (bytes : List ℕ) (parts : ℕ × Bor (List ℕ)) : Type 0 where
+pub record SplitOff (bytes : List ℕ) (parts : ℕ × Bor (List ℕ)) : Type 0 where
   pub long : 2 ≤ length bytes
   pub number : parts.0 ≡ number_at bytes 0
   pub rest : parts.1.now ≡ drop 2 bytes

@@ -5,7 +5,7 @@ ghost use Rattle.codes.specs.declared.speeds.Speed.{Speed};
 ghost use Rattle.codes.specs.Refusals.{Told};
 ghost use Rattle.codes.specs.Speeds.{lower};
 ghost use Rattle.laws.specs.Judged.{metres};
-ghost use Rattle.bookrecords.specs.Decoding.{torn, Numbered, Whole, headed, told_further, emergency_entry, service_entry, decoded};
+ghost use Rattle.bookrecords.specs.Decoding.{torn, SplitOff, Whole, headed, told_further, emergency_entry, service_entry, decoded};
 ghost use Rattle.bookrecords.specs.Records.{Said, spelt};
 ghost use Rattle.bookrecords.specs.Reading.{said, told_record, Placed, Fronts, Hands};
 
@@ -23,7 +23,7 @@ pub struct Reader<'a> {
 
 // The number in two bytes at the front, the low one first, and the bytes behind it; none where two bytes are not left.
 fn split_number(bytes: &[u8]) -> Option<(u16, &[u8])>
-    ensures { MatchOption result (length bytes.now < 2) (Numbered bytes.now) }
+    ensures { MatchOption result (length bytes.now < 2) (SplitOff bytes.now) }
 {
     let (number, rest) = bytes.split_first_chunk()?;
     Some((u16::from_le_bytes(*number), rest))

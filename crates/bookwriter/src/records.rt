@@ -23,7 +23,8 @@ pub(super) fn service_record(class: Class, from: Speed, metres: u16) -> [u8; 8]
     [6, 0, 2, 0, class.number(), from.kmh(), low, high]
 }
 
-// A buffer that records are written into one after the other, and the place behind the last of them.
+// A buffer that records are written into one after the other, and the place behind the last of them. The book stands beside a
+// writer: one that kept it too would have to promise at each write that it stays the same.
 #[derive(Drop)]
 pub(super) struct Writer<'a> {
     buffer: &'a mut [u8],

@@ -8,7 +8,7 @@ mod layout;
 mod refusing;
 mod written;
 
-use damage::{Case, Damage, cases};
+use damage::{CASES, Case, Damage, Due};
 use layout::cut;
 use refusing::is_as_due;
 use std::fs;
@@ -27,7 +27,7 @@ fn tell_written(rt: &HostRuntime, file: &[u8]) -> anyhow::Result<()> {
     println!(rt;
         "buffers of 5246 and 5248 bytes are refused: {is_short_refused} {is_long_refused}"
     )?;
-    let back = written::figures_back(file);
+    let back = written::figures_back(file).unwrap_or(0);
     println!(rt; "written and read back: {back} figures equal")?;
     Ok(())
 }
@@ -36,7 +36,7 @@ fn tell_written(rt: &HostRuntime, file: &[u8]) -> anyhow::Result<()> {
 fn tell_shuffled(rt: &HostRuntime, file: &[u8]) -> anyhow::Result<()> {
     let heap = rt.alloc();
     let other = written::shuffled(heap, file)?;
-    let back = written::figures_back(other.as_slice());
+    let back = written::figures_back(other.as_slice()).unwrap_or(0);
     println!(rt; "shuffled with remarks: {back} figures equal")?;
     let places = written::remarks(heap, other.as_slice())?;
     print!(rt; "remarks at")?;
@@ -50,24 +50,33 @@ fn tell_shuffled(rt: &HostRuntime, file: &[u8]) -> anyhow::Result<()> {
 // The damaged files: how many are refused as is due, and which are not.
 fn tell_damaged(rt: &HostRuntime, file: &[u8]) -> anyhow::Result<()> {
     let mut as_due: usize = 0;
-    for case in cases() {
-        if is_as_due(rt.alloc(), file, *case)? {
+    // counted by hand, since memory for a damaged file may fail and ends the run
+    for case in CASES {
+        if is_as_due(rt.alloc(), file, case)? {
             as_due = as_due.saturating_add(1);
         } else {
-            let record = case.0;
-            let number = case.2;
-            let place = case.3;
+            let record = case.record;
+            let (number, place) = case.due.map_or((0, 0), |due| (due.number, due.place));
             println!(rt; "  not refused as due: record {record}, refusal {number}, place {place}")?;
         }
     }
-    let count = cases().len();
+    let count = CASES.len();
     println!(rt; "damaged files: {as_due} of {count} as due")?;
     Ok(())
 }
 
 // A record from 45 km/h is no record.
 fn tell_45(rt: &HostRuntime, file: &[u8]) -> anyhow::Result<()> {
-    let is_refused = is_as_due(rt.alloc(), file, Case(297, Damage::From(45), 17, 2_628))?;
+    let due = Some(Due {
+        number: 17,
+        place: 2_628,
+    });
+    let case = Case {
+        record: 297,
+        damage: Damage::From(45),
+        due,
+    };
+    let is_refused = is_as_due(rt.alloc(), file, case)?;
     println!(rt; "a record from 45 is refused by 17: {is_refused}")?;
     Ok(())
 }

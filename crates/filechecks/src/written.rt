@@ -5,7 +5,7 @@ use bookfile::read;
 use bookrecords::{Reader, Record};
 use books::{BrakingBook, FileBook, PublishedBook};
 use bookwriter::write;
-use codes::{Class, Code, Speed};
+use codes::{Class, Code, Refusal, Speed};
 use std::alloc::Global;
 
 // A remark where the shuffled records have one.
@@ -14,29 +14,20 @@ const REMARK: &[u8; 6] = b"\x04\x00\x03\x00ok";
 // The published book as the library writes it.
 pub fn published(heap: Global) -> anyhow::Result<Vec<u8>> {
     let mut buffer = vec![in heap; 0u8; WRITTEN_SIZE]?;
-    match write(&PublishedBook, &mut buffer) {
-        Ok(()) => Ok(buffer),
-        Err(_) => Err(anyhow!("the published book was not written")),
+    if write(&PublishedBook, &mut buffer).is_err() {
+        return Err(anyhow!("the published book was not written"));
     }
+    Ok(buffer)
 }
 
 // Whether a buffer of `size` bytes is refused by 10 and left as it was.
 pub fn refuses_buffer(heap: Global, size: usize) -> anyhow::Result<bool> {
     let mut buffer = vec![in heap; 9u8; size]?;
-    match write(&PublishedBook, &mut buffer) {
-        Ok(()) => Ok(false),
-        Err(refusal) => Ok(refusal.number() == 10 && is_all(buffer.as_slice(), 9)),
-    }
-}
-
-// Whether each byte is `byte`.
-fn is_all(bytes: &[u8], byte: u8) -> bool {
-    for b in bytes {
-        if *b != byte {
-            return false;
-        }
-    }
-    true
+    let outcome = write(&PublishedBook, &mut buffer);
+    Ok(
+        outcome.is_err_and(|refusal| refusal.number() == 10)
+            && buffer.as_slice().iter().all(|byte| *byte == 9),
+    )
 }
 
 // How many emergency answers of one speed are the same in two books.
@@ -46,52 +37,54 @@ fn agreeing_codes<A: BrakingBook, B: BrakingBook>(
     class: Class,
     from: Speed,
 ) -> usize {
-    let mut agree: usize = 0;
-    for to in Code::ALL {
-        if let (Ok(x), Ok(y)) = (a.emergency(class, from, to), b.emergency(class, from, to)) {
-            if x == y {
-                agree = agree.saturating_add(1);
-            }
-        }
-    }
-    agree
+    Code::ALL
+        .into_iter()
+        .filter(|to| match a.emergency(class, from, *to) {
+            Ok(metres) => b.emergency(class, from, *to) == Ok(metres),
+            Err(_) => false,
+        })
+        .count()
+}
+
+// How many answers of one class are the same in two books.
+fn agreeing_speeds<A: BrakingBook, B: BrakingBook>(a: &A, b: &B, class: Class) -> usize {
+    let emergencies = Speed::ALL.into_iter().fold(
+        0usize,
+        |sum, from| sum.saturating_add(agreeing_codes(a, b, class, from)),
+    );
+    let services = Speed::ALL
+        .into_iter()
+        .filter(|from| a.service(class, *from) == b.service(class, *from))
+        .count();
+    emergencies.saturating_add(services)
 }
 
 // How many answers are the same in two books.
 fn agreeing<A: BrakingBook, B: BrakingBook>(a: &A, b: &B) -> usize {
-    let mut agree: usize = 0;
-    for class in Class::ALL {
-        for from in Speed::ALL {
-            agree = agree.saturating_add(agreeing_codes(a, b, class, from));
-            if a.service(class, from) == b.service(class, from) {
-                agree = agree.saturating_add(1);
-            }
-        }
-    }
-    agree
+    Class::ALL.into_iter().fold(
+        0usize,
+        |sum, class| sum.saturating_add(agreeing_speeds(a, b, class)),
+    )
 }
 
-// How many answers of the book over a table are those of the published book; 0 where the table is refused.
-fn figures_over(table: &[u16]) -> usize {
+// How many answers of the book over a table are those of the published book.
+fn figures_over(table: &[u16]) -> Result<usize, Refusal> {
     let mut book = FileBook::new();
-    match book.lay_over(table) {
-        Ok(()) => agreeing(&book, &PublishedBook),
-        Err(_) => 0,
-    }
+    book.lay_over(table)?;
+    Ok(agreeing(&book, &PublishedBook))
 }
 
-// How many answers of the book that a file is of are those of the published book; 0 where the file is refused.
-pub fn figures_back(file: &[u8]) -> usize {
+// How many answers of the book that a file is of are those of the published book.
+pub fn figures_back(file: &[u8]) -> Result<usize, Refusal> {
     let mut table = [0u16; RECORDS];
-    match read(file, &mut table) {
-        Ok(()) => figures_over(&table),
-        Err(_) => 0,
-    }
+    read(file, &mut table).map_err(|fault| fault.refusal)?;
+    figures_over(&table)
 }
 
 // The records of a written file in another order, every fifth from the front, with a remark before every hundredth.
 pub fn shuffled(heap: Global, file: &[u8]) -> anyhow::Result<Vec<u8>> {
     let mut other = Vec::new(heap);
+    // a number in the new order, and not a place in a slice
     for n in 0..RECORDS {
         if n % 100 == 0 {
             other.extend_from_slice(REMARK)?;
@@ -106,12 +99,9 @@ pub fn shuffled(heap: Global, file: &[u8]) -> anyhow::Result<Vec<u8>> {
 pub fn remarks(heap: Global, file: &[u8]) -> anyhow::Result<Vec<usize>> {
     let mut places = Vec::new(heap);
     let mut reader = Reader::new(file);
-    // each turn takes a record of two bytes or more, so the file ends first
-    for _ in 0..file.len() {
-        match reader.next() {
-            Ok(Some(Record::Remark { place, .. })) => places.push(place)?,
-            Ok(Some(_)) => {}
-            _ => break,
+    while let Ok(Some(item)) = reader.next() {
+        if let Record::Remark { place, .. } = item {
+            places.push(place)?;
         }
     }
     Ok(places)

@@ -6,22 +6,23 @@ mod classes;
 mod printed;
 
 use books::PublishedBook;
-use classes::{cases, is_of_class};
+use classes::{FALDTAL, is_of_class};
 use printed::{Findings, compare_print};
 use std::fs;
 
 // The classes of faldtal at each edge and beside it.
 fn tell_classes(rt: &HostRuntime) -> anyhow::Result<()> {
-    let mut as_due: usize = 0;
-    for case in cases() {
-        let (faldtal, class) = *case;
-        if is_of_class(faldtal, class) {
-            as_due = as_due.saturating_add(1);
-        } else {
+    for (faldtal, due) in FALDTAL {
+        if !is_of_class(faldtal, due) {
+            let class = due.unwrap_or(0);
             println!(rt; "  not of class {class}: {faldtal}")?;
         }
     }
-    let count = cases().len();
+    let as_due = FALDTAL
+        .into_iter()
+        .filter(|(faldtal, due)| is_of_class(*faldtal, *due))
+        .count();
+    let count = FALDTAL.len();
     println!(rt; "classes of faldtal: {as_due} of {count} as due")?;
     Ok(())
 }

@@ -6,7 +6,8 @@ use codes::{Class, Code, Speed};
 use laws::FIGURE_COUNT;
 use std::alloc::Global;
 use std::fmt;
-use std::str::SplitWhitespace;
+use std::num::ParseIntError;
+use std::str::{FromStr, SplitWhitespace};
 
 // What a printed figure is: the service distance, or the emergency distance to a code.
 #[derive(Clone, Copy)]
@@ -15,14 +16,14 @@ pub enum Brakes {
     Emergency(Code),
 }
 
-// A printed figure, and the one that the book has.
+// A printed figure, and the one that the book has, if it has one.
 #[derive(Clone, Copy)]
 pub struct Difference {
     class: Class,
     from: Speed,
     brakes: Brakes,
     printed: u16,
-    booked: u16,
+    booked: Option<u16>,
 }
 
 impl fmt::Display for Difference {
@@ -30,7 +31,7 @@ impl fmt::Display for Difference {
         let class = self.class.number();
         let from = self.from.kmh();
         let printed = self.printed;
-        let booked = self.booked;
+        let booked = self.booked.unwrap_or(0);
         match self.brakes {
             Brakes::Service => write!(
                 f,
@@ -82,7 +83,7 @@ impl Findings {
 
     // Notes a printed figure beside the book's.
     fn note(&mut self, seen: Difference) -> anyhow::Result<()> {
-        if seen.printed == seen.booked {
+        if seen.booked == Some(seen.printed) {
             self.agree = self.agree.saturating_add(1);
         } else {
             self.differences.push(seen)?;
@@ -91,77 +92,30 @@ impl Findings {
     }
 }
 
-// The book's figure; 0 where it refuses.
-fn figure<B: BrakingBook>(book: &B, class: Class, from: Speed, brakes: Brakes) -> u16 {
+// The book's figure; none where it refuses.
+fn figure<B: BrakingBook>(book: &B, class: Class, from: Speed, brakes: Brakes) -> Option<u16> {
     match brakes {
-        Brakes::Service => book.service(class, from),
-        Brakes::Emergency(to) => book.emergency(class, from, to).unwrap_or(0),
+        Brakes::Service => Some(book.service(class, from)),
+        Brakes::Emergency(to) => book.emergency(class, from, to).ok(),
     }
 }
 
 // Whether a figure printed under a class is one of `class` too: classes 1 and 2 use the emergency distances of class 3.
 fn is_shared(heading: Class, brakes: Brakes, class: Class) -> bool {
     match brakes {
-        Brakes::Emergency(_) if heading.number() == 3 => class.number() <= 3,
-        _ => class.number() == heading.number(),
+        Brakes::Emergency(_) if heading == Class::C3 => class <= Class::C3,
+        _ => class == heading,
     }
-}
-
-// Compares one figure with that of each class that uses it.
-fn compare<B: BrakingBook>(
-    findings: &mut Findings,
-    book: &B,
-    heading: Class,
-    from: Speed,
-    brakes: Brakes,
-    printed: u16,
-) -> anyhow::Result<()> {
-    for class in Class::ALL {
-        if is_shared(heading, brakes, class) {
-            let booked = figure(book, class, from, brakes);
-            findings.note(Difference {
-                class,
-                from,
-                brakes,
-                printed,
-                booked,
-            })?;
-        }
-    }
-    Ok(())
-}
-
-// Compares one row, each figure by the speed above it. A heading that is no speed is noted, and its figure compared with none.
-fn compare_row<B: BrakingBook>(
-    findings: &mut Findings,
-    book: &B,
-    heading: &Heading,
-    brakes: Brakes,
-    row: &[u16],
-) -> anyhow::Result<()> {
-    for (kmh, metres) in heading.speeds.iter().rev().zip(row.iter().rev()) {
-        match Speed::from_kmh(*kmh) {
-            Some(from) => compare(findings, book, heading.class, from, brakes, *metres)?,
-            None => findings.strange.push(*kmh)?,
-        }
-    }
-    Ok(())
 }
 
 // The numbers that are left on a line.
-fn numbers(heap: Global, words: SplitWhitespace<'_>) -> anyhow::Result<Vec<u16>> {
+fn numbers<T: FromStr<Err = ParseIntError> + Drop>(
+    heap: Global,
+    words: SplitWhitespace<'_>,
+) -> anyhow::Result<Vec<T>> {
     let mut row = Vec::new(heap);
     for word in words {
-        row.push(word.parse::<u16>()?)?;
-    }
-    Ok(row)
-}
-
-// The speeds that head the columns.
-fn speeds(heap: Global, words: SplitWhitespace<'_>) -> anyhow::Result<Vec<u8>> {
-    let mut row = Vec::new(heap);
-    for word in words {
-        row.push(word.parse::<u8>()?)?;
+        row.push(word.parse::<T>()?)?;
     }
     Ok(row)
 }
@@ -171,47 +125,85 @@ fn code(word: &str) -> anyhow::Result<Code> {
     if word == "stop" {
         return Ok(Code::Stop);
     }
-    match Speed::from_kmh(word.parse::<u8>()?) {
-        Some(speed) => Ok(Code::Go(speed)),
-        None => Err(anyhow!("a row is headed by no code")),
-    }
+    let Ok(speed) = Speed::try_from(word.parse::<u8>()?) else {
+        return Err(anyhow!("a row is headed by no code"));
+    };
+    Ok(Code::Go(speed))
 }
 
 // The class that a line names.
 fn class(word: &str) -> anyhow::Result<Class> {
-    match Class::from_number(word.parse::<u8>()?) {
-        Some(class) => Ok(class),
-        None => Err(anyhow!("there is no such class")),
-    }
+    let Ok(class) = Class::try_from(word.parse::<u8>()?) else {
+        return Err(anyhow!("there is no such class"));
+    };
+    Ok(class)
 }
 
-// Takes one line of the print: a class, its headings, a row of figures, or nothing.
-fn take_line<B: BrakingBook>(
+// A book that a print is compared with, and what came of it so far.
+#[derive(Drop)]
+struct Comparison<'a, B> {
     heap: Global,
-    findings: &mut Findings,
-    book: &B,
-    heading: &mut Heading,
-    line: &str,
-) -> anyhow::Result<()> {
-    let mut words = line.split_whitespace();
-    let Some(first) = words.next() else {
-        return Ok(());
-    };
-    if first == "class" {
-        heading.class = class(words.next().unwrap_or(""))?;
-        return Ok(());
+    book: &'a B,
+    findings: Findings,
+}
+
+impl<B: BrakingBook> Comparison<'_, B> {
+    // Compares one figure with that of each class that uses it.
+    fn take_figure(
+        &mut self,
+        heading: Class,
+        from: Speed,
+        brakes: Brakes,
+        printed: u16,
+    ) -> anyhow::Result<()> {
+        for class in Class::ALL {
+            if is_shared(heading, brakes, class) {
+                let booked = figure(self.book, class, from, brakes);
+                self.findings.note(Difference {
+                    class,
+                    from,
+                    brakes,
+                    printed,
+                    booked,
+                })?;
+            }
+        }
+        Ok(())
     }
-    if first == "from" {
-        heading.speeds = speeds(heap, words)?;
-        return Ok(());
+
+    // Compares one row, each figure by the speed above it. A heading that is no speed is noted, and its figure compared with none.
+    fn take_row(&mut self, heading: &Heading, brakes: Brakes, row: &[u16]) -> anyhow::Result<()> {
+        for (kmh, metres) in heading.speeds.iter().rev().zip(row.iter().rev()) {
+            match Speed::try_from(*kmh) {
+                Ok(from) => self.take_figure(heading.class, from, brakes, *metres)?,
+                Err(_) => self.findings.strange.push(*kmh)?,
+            }
+        }
+        Ok(())
     }
-    let brakes = if first == "to" {
-        Brakes::Emergency(code(words.next().unwrap_or(""))?)
-    } else {
-        Brakes::Service
-    };
-    let row = numbers(heap, words)?;
-    compare_row(findings, book, heading, brakes, row.as_slice())
+
+    // Takes one line of the print: a class, its headings, a row of figures, or nothing.
+    fn take_line(&mut self, heading: &mut Heading, line: &str) -> anyhow::Result<()> {
+        let mut words = line.split_whitespace();
+        let Some(first) = words.next() else {
+            return Ok(());
+        };
+        if first == "class" {
+            heading.class = class(words.next().unwrap_or(""))?;
+            return Ok(());
+        }
+        if first == "from" {
+            heading.speeds = numbers(self.heap, words)?;
+            return Ok(());
+        }
+        let brakes = if first == "to" {
+            Brakes::Emergency(code(words.next().unwrap_or(""))?)
+        } else {
+            Brakes::Service
+        };
+        let row = numbers(self.heap, words)?;
+        self.take_row(heading, brakes, row.as_slice())
+    }
 }
 
 // Compares a whole print with a book.
@@ -220,13 +212,18 @@ pub fn compare_print<B: BrakingBook>(
     book: &B,
     text: &str,
 ) -> anyhow::Result<Findings> {
-    let mut findings = Findings::new(heap);
     let mut heading = Heading {
         class: Class::C1,
         speeds: Vec::new(heap),
     };
+    let findings = Findings::new(heap);
+    let mut comparison = Comparison {
+        heap,
+        book,
+        findings,
+    };
     for line in text.lines() {
-        take_line(heap, &mut findings, book, &mut heading, line)?;
+        comparison.take_line(&mut heading, line)?;
     }
-    Ok(findings)
+    Ok(comparison.findings)
 }
