@@ -65,6 +65,24 @@ module _ (p : ℕ → Bool) where
       go [] e = ended_last (before_first p bs) (omega (arith, ap length (last e)))
       go (b ∷ l) e = ended_more (before_first p bs) l
 
+-- a byte at the front of the first line makes no more than one line more
+ended_onto : (b : ℕ) (ws : List (List ℕ)) → length (ended (onto_first b ws)) ≤ 1 + length (ended ws)
+unfolding ended
+ended_onto b [] = omega arith
+ended_onto b ([] ∷ []) = omega arith
+ended_onto b ((c ∷ w) ∷ []) = omega arith
+ended_onto b ([] ∷ (v ∷ ws)) = omega arith
+ended_onto b ((c ∷ w) ∷ (v ∷ ws)) = omega arith
+
+pub lines_few : (bs : List ℕ) → length (lines_in bs) ≤ length bs
+unfolding ended
+lines_few [] = omega arith
+lines_few (b ∷ bs) = go (separates LineFeed b) (lines_few bs)
+  where
+    go : (t : Bool) → length (lines_in bs) ≤ length bs → length (ended (cond t ([] ∷ slice_split (separates LineFeed) bs) (onto_first b (slice_split (separates LineFeed) bs)))) ≤ length (b ∷ bs)
+    go true h = omega (arith, ap length (ended_more (separates LineFeed) [] bs))
+    go false h = omega (arith, ended_onto b (slice_split (separates LineFeed) bs))
+
 pub words_none : (bs : List ℕ) → length bs ≡ 0 → words_in bs ≡ []
 unfolding filled
 words_none [] e = refl
