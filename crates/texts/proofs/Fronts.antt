@@ -1,8 +1,8 @@
 -- The pieces that a text is cut into, and the front of it. Assumes nothing.
-use Rattle.std.proofs.Common.{◌≡◌, ℕ, ◌+◌, ◌<◌, ◌≤◌, suc, Bool, true, false, cond, not, List, [], ◌∷◌, ◌++◌, length, get_or, take, drop, sym, refl, ap, ◌∙◌, append-nil, arith, take-append-drop, drop-drop, length-drop, length-take, subst}
+use Rattle.std.proofs.Common.{◌≡◌, ℕ, ◌+◌, ◌<◌, ◌≤◌, suc, Bool, true, false, cond, not, List, [], ◌∷◌, ◌++◌, length, take, drop, sym, refl, ap, ◌∙◌, append-nil, arith, take-append-drop, drop-drop, length-drop, length-take, subst}
 use Rattle.std.proofs.lemmas.Grind.{common_steps}
 use Rattle.std.proofs.lemmas.List.Sums.{prefix_len-le-length}
-use Rattle.std.specs.List.{prefix_len, position, position_or_len, before_first, after_first, slice_split, onto_first}
+use Rattle.std.specs.List.{position, position_or_len, before_first, after_first, slice_split, onto_first}
 use Rattle.std.specs.Option.{unwrap_or}
 use Rattle.texts.specs.declared.cuts.Separator.TheVariants.{LineFeed}
 use Rattle.texts.specs.Cuts.{is_blank, separates, skip_blanks, filled, ended, words_in, lines_in}
