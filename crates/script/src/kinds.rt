@@ -53,6 +53,9 @@ impl Kind {
     pub fn of(word: &[u8]) -> Option<Kind>
         ensures { result ≡ kind_of word.now }
     {
-        Kind::ALL.iter().copied().find(|kind| kind.is_given_by(word))
+        Kind::ALL
+            .iter()
+            .copied()
+            .find(|kind| kind.is_given_by(word))
     }
 }

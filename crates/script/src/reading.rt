@@ -31,9 +31,7 @@ fn ordered(kind: Kind, words: &mut Words<'_>, row: &mut Vec<u8>) -> Result<Order
                 .map(|(number, length)| Order::Interval { number, length })
         }
         Kind::Gradient => {
-            words
-                .three()
-                .map(|(from, to, faldtal)| Order::Gradient { from, to, faldtal })
+            words.three().map(|(from, to, faldtal)| Order::Gradient { from, to, faldtal })
         }
         Kind::Restriction => {
             words

@@ -1,8 +1,8 @@
 -- The pieces that a text is cut into, and the front of it. Assumes nothing.
-use Rattle.std.proofs.Common.{◌≡◌, ℕ, ◌+◌, ◌<◌, ◌≤◌, suc, Bool, true, false, cond, not, List, [], ◌∷◌, ◌++◌, length, get_or, take, drop, sym, refl, ap, ◌∙◌, append-nil, arith, take-append-drop, drop-drop, length-drop, length-take, subst}
+use Rattle.std.proofs.Common.{◌≡◌, ℕ, ◌+◌, ◌<◌, ◌≤◌, suc, Bool, true, false, cond, not, List, [], ◌∷◌, ◌++◌, length, take, drop, sym, refl, ap, ◌∙◌, append-nil, arith, take-append-drop, drop-drop, length-drop, length-take, subst}
 use Rattle.std.proofs.lemmas.Grind.{common_steps}
 use Rattle.std.proofs.lemmas.List.Sums.{prefix_len-le-length}
-use Rattle.std.specs.List.{prefix_len, position, position_or_len, before_first, after_first, slice_split, onto_first}
+use Rattle.std.specs.List.{position, position_or_len, before_first, after_first, slice_split, onto_first}
 use Rattle.std.specs.Option.{unwrap_or}
 use Rattle.texts.specs.declared.cuts.Separator.TheVariants.{LineFeed}
 use Rattle.texts.specs.Cuts.{is_blank, separates, skip_blanks, filled, ended, words_in, lines_in}
@@ -64,6 +64,24 @@ module _ (p : ℕ → Bool) where
       go : (l : List ℕ) → left bs ≡ l → ended (before_first p bs ∷ later l) ≡ before_first p bs ∷ ended (slice_split p (drop 1 l))
       go [] e = ended_last (before_first p bs) (omega (arith, ap length (last e)))
       go (b ∷ l) e = ended_more (before_first p bs) l
+
+-- a byte at the front of the first line makes no more than one line more
+ended_onto : (b : ℕ) (ws : List (List ℕ)) → length (ended (onto_first b ws)) ≤ 1 + length (ended ws)
+unfolding ended
+ended_onto b [] = omega arith
+ended_onto b ([] ∷ []) = omega arith
+ended_onto b ((c ∷ w) ∷ []) = omega arith
+ended_onto b ([] ∷ (v ∷ ws)) = omega arith
+ended_onto b ((c ∷ w) ∷ (v ∷ ws)) = omega arith
+
+pub lines_few : (bs : List ℕ) → length (lines_in bs) ≤ length bs
+unfolding ended
+lines_few [] = omega arith
+lines_few (b ∷ bs) = go (separates LineFeed b) (lines_few bs)
+  where
+    go : (t : Bool) → length (lines_in bs) ≤ length bs → length (ended (cond t ([] ∷ slice_split (separates LineFeed) bs) (onto_first b (slice_split (separates LineFeed) bs)))) ≤ length (b ∷ bs)
+    go true h = omega (arith, ap length (ended_more (separates LineFeed) [] bs))
+    go false h = omega (arith, ended_onto b (slice_split (separates LineFeed) bs))
 
 pub words_none : (bs : List ℕ) → length bs ≡ 0 → words_in bs ≡ []
 unfolding filled

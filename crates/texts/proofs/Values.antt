@@ -1,5 +1,5 @@
 -- What std reads of a word is the number that the word writes. Assumes nothing.
-use Rattle.std.proofs.Common.{◌≡◌, ◌≢◌, ℕ, ◌+◌, ◌-◌, ◌^◌, ◌<◌, ◌≤◌, zero, suc, Bool, true, false, cond, List, [], ◌∷◌, length, get_or, drop, Some, None, Ok, Err, Option, Result, refl, sym, ap, ◌∙◌, subst, arith, w32, ℤ, pos, neg_ℤ, nat_le, nat_eq, true-eqb, ◌==◌}
+use Rattle.std.proofs.Common.{◌≡◌, ◌≢◌, ℕ, ◌-◌, ◌^◌, ◌<◌, ◌≤◌, zero, suc, Bool, true, false, cond, List, [], ◌∷◌, length, get_or, drop, Some, None, Ok, Err, Result, refl, sym, ap, ◌∙◌, subst, arith, w32, ℤ, pos, neg_ℤ, nat_le, ◌==◌}
 use Rattle.std.specs.Option.{option_map}
 use Rattle.std.specs.Result.{OkIff, result_ok}
 use Rattle.std.specs.Str.{IsUtf8, IsAscii, all_ascii_digits}
@@ -24,18 +24,18 @@ held_is {X} {E} f limit Q [] (Ok x) to from h = absurd (omega (arith, h.0.1))
 held_is {X} {E} f limit Q [] (Err e) to from h = refl
 held_is {X} {E} f limit Q (b ∷ bs) (Ok x) to from h =
     ap Some h.1 ∙ sym (ap (λ t. option_map f (held limit (cond t (Some value) None))) h.0.0 ∙ ap (λ t. option_map f (cond t (Some value) None)) (le-leb value limit (to h.0.2)))
-    where
-      value : ℕ
-      value = digits_value 10 (b ∷ bs)
+  where
+    value : ℕ
+    value = digits_value 10 (b ∷ bs)
 held_is {X} {E} f limit Q (b ∷ bs) (Err e) to from h = go (all_ascii_digits (b ∷ bs)) (nat_le value limit) refl refl
-    where
-      value : ℕ
-      value = digits_value 10 (b ∷ bs)
+  where
+    value : ℕ
+    value = digits_value 10 (b ∷ bs)
 
-      go : (t u : Bool) → all_ascii_digits (b ∷ bs) ≡ t → nat_le value limit ≡ u → None ≡ option_map f (held limit (cond t (Some value) None))
-      go false u p q = refl
-      go true false p q = ap (λ t. option_map f (cond t (Some value) None)) (sym q)
-      go true true p q = absurd (h (p, omega arith, from (leb-true value limit q)))
+    go : (t u : Bool) → all_ascii_digits (b ∷ bs) ≡ t → nat_le value limit ≡ u → None ≡ option_map f (held limit (cond t (Some value) None))
+    go false u p q = refl
+    go true false p q = ap (λ t. option_map f (cond t (Some value) None)) (sym q)
+    go true true p q = absurd (h (p, omega arith, from (leb-true value limit q)))
 
 module _ {E : Type 0} (w : List ℕ) where
   pub unsigned_is : (k : ℕ) (r : Result ℕ E) → get_or w 0 0 ≢ 43 → ParsesUnsigned k 10 w r → result_ok r ≡ upto (2 ^ k - 1) w

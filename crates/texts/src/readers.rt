@@ -1,5 +1,5 @@
 // The lines of a script and the words of a line, handed out one by one.
-ghost use Rattle.std.specs.Prelude.{◌≡◌, not, position};
+ghost use Rattle.std.specs.Prelude.{◌≡◌, ◌≤◌, not, length, position};
 ghost use Rattle.std.specs.Iterator.{YieldsFirstRef, item_count};
 ghost use Rattle.texts.specs.Cuts.{is_blank, skip_blanks, words_in, words_of, lines_in};
 
@@ -19,8 +19,10 @@ pub struct Words<'a> {
 
 impl<'a> Lines<'a> {
     // All lines of a text. A line feed ends a line, and a last line without one counts.
+    #[tactic(auto, using(crate::proofs::Fronts::lines_few))]
     pub fn of(text: &'a [u8]) -> Lines<'a>
-        ensures { lines_in result.rest.now ≡ lines_in text.now }
+        ensures lines { lines_in result.rest.now ≡ lines_in text.now }
+        ensures few { length (lines_in result.rest.now) ≤ length text.now }
     {
         Lines { rest: text }
     }
