@@ -80,7 +80,7 @@ module _ (sheet : Variant) (approach : Speed) where
   module _ (given : List Code) (size : length given ≡ 4) where
     judged_by : (o : Option (ℕ × Rule)) → Judged track mark printed_emergency printed_service first ground approach given o → Holds (verdict sheet approach given o)
     judged_by None allowed = record { size = size; obeys = allowed }
-    judged_by (Some (j, rule)) breaks = record { rule = rule; numbered = refl; breaks = breaks }
+    judged_by (Some (j, rule)) breaks = breaks
 
     judged : Holds (judge (stretch_value steepness) sheet approach given)
     judged = judged_by _ (row_judged track mark printed_emergency printed_service first ground approach given)

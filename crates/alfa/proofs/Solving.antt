@@ -14,7 +14,7 @@ use Rattle.ground.specs.Kinds.{steepness}
 use Rattle.laws.specs.Books.{Emergencies, Services}
 use Rattle.books.specs.Printed.{printed_emergency, printed_service}
 use Rattle.rules.specs.Tracks.{Track, Mark, begin_of}
-use Rattle.rules.specs.Rules.{train_length, Rule, rule_number, rules, code_at}
+use Rattle.rules.specs.Rules.{train_length, Rule, rules, code_at}
 use Rattle.rows.specs.WorkingOut.{letter_of}
 use Rattle.alfa.specs.declared.sheets.Variant.{Variant}
 use Rattle.alfa.specs.declared.table.Example.{Example}
@@ -84,7 +84,7 @@ four row = get_or row 0 Stop ∷ get_or row 1 Stop ∷ get_or row 2 Stop ∷ get
 
 abbrev pub verdict : Variant → Speed → List Code → Option (ℕ × Rule) → Example
 verdict sheet approach row None = Passes sheet approach row
-verdict sheet approach row (Some (j, rule)) = Breaks sheet approach row j (rule_number rule)
+verdict sheet approach row (Some (j, rule)) = Breaks sheet approach row j rule
 
 module _ (reckon : List (Entry Class) → ℕ → ℕ → Class) where
   abbrev pub work : Variant → Speed → Example

@@ -4,6 +4,7 @@ use Rattle.std.specs.Prelude.{ℕ, List, [], ◌∷◌, ℤ, pos, neg_ℤ, Some,
 use Rattle.codes.specs.declared.speeds.Speed.TheVariants.{V40, V50, V60, V70, V80, V100, V120}
 use Rattle.codes.specs.declared.speeds.Code.TheVariants.{Stop, Go}
 use Rattle.codes.specs.declared.gradients.Class.TheVariants.{C1, C2, C9, C10, C11}
+use Rattle.rules.specs.Rules.{service, next}
 use Rattle.rows.specs.declared.letters.StopLetter.TheVariants.{Sv}
 use Rattle.alfa.specs.declared.sheets.Variant.{Variant}
 use Rattle.alfa.specs.declared.table.Example.{Example}
@@ -39,8 +40,8 @@ table =
     Highest (drawn_to 11160) V100 (Go V80 ∷ Go V60 ∷ Go V50 ∷ Stop ∷ []) Sv 4 ∷
     Highest (drawn_to 11159) V100 (Go V80 ∷ Go V60 ∷ Go V40 ∷ Stop ∷ []) Sv 4 ∷
     Passes plain V100 (Go V80 ∷ Go V60 ∷ Go V50 ∷ Stop ∷ []) ∷
-    Breaks plain V100 (Go V80 ∷ Go V70 ∷ Go V50 ∷ Stop ∷ []) 2 5 ∷
-    Breaks plain V100 (Go V80 ∷ Go V60 ∷ Go V60 ∷ Stop ∷ []) 3 3 ∷
+    Breaks plain V100 (Go V80 ∷ Go V70 ∷ Go V50 ∷ Stop ∷ []) 2 next ∷
+    Breaks plain V100 (Go V80 ∷ Go V60 ∷ Go V60 ∷ Stop ∷ []) 3 service ∷
     OfClass (faldtal 25) C1 ∷
     OfClass (faldtal 26) C2 ∷
     OfClass (faldtal 30) C2 ∷

@@ -8,7 +8,7 @@ use self::Example::{Breaks, Highest, NoFaldtal, NoRow, OfClass, Passes};
 use super::sheets::Variant;
 use codes::Code::{Go, Stop};
 use codes::Speed::{V40, V50, V60, V70, V80, V100, V120};
-use codes::{Class, Code, Speed};
+use codes::{Class, Code, Rule, Speed};
 use rows::StopLetter;
 use rows::StopLetter::Sv;
 
@@ -34,13 +34,13 @@ pub enum Example {
         approach: Speed,
         row: [Code; 4],
     },
-    // The first interval of a row that breaks a rule, by its place, and the first rule that it breaks, by its number.
+    // The first interval of a row that breaks a rule, by its place, and the first rule that it breaks.
     Breaks {
         sheet: Variant,
         approach: Speed,
         row: [Code; 4],
         interval: usize,
-        rule: u8,
+        rule: Rule,
     },
     // The class of a faldtal, in tenths of a permille.
     OfClass {
@@ -67,8 +67,8 @@ const EXAMPLES: [Example; 20] = [
     Highest { sheet: Variant::DRAWN_ENOUGH, approach: V100, row: [Go(V80), Go(V60), Go(V50), Stop], letter: Sv, place: 4 },
     Highest { sheet: Variant::DRAWN_SHORT, approach: V100, row: [Go(V80), Go(V60), Go(V40), Stop], letter: Sv, place: 4 },
     Passes { sheet: Variant::PLAIN, approach: V100, row: [Go(V80), Go(V60), Go(V50), Stop] },
-    Breaks { sheet: Variant::PLAIN, approach: V100, row: [Go(V80), Go(V70), Go(V50), Stop], interval: 2, rule: 5 },
-    Breaks { sheet: Variant::PLAIN, approach: V100, row: [Go(V80), Go(V60), Go(V60), Stop], interval: 3, rule: 3 },
+    Breaks { sheet: Variant::PLAIN, approach: V100, row: [Go(V80), Go(V70), Go(V50), Stop], interval: 2, rule: Rule::Next },
+    Breaks { sheet: Variant::PLAIN, approach: V100, row: [Go(V80), Go(V60), Go(V60), Stop], interval: 3, rule: Rule::Service },
     OfClass { faldtal: -25, class: Class::C1 },
     OfClass { faldtal: -26, class: Class::C2 },
     OfClass { faldtal: -30, class: Class::C2 },

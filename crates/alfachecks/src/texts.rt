@@ -47,6 +47,7 @@ impl fmt::Display for Refused {
     fn fmt<W: fmt::Write>(&self, f: &mut fmt::Formatter<W>) -> fmt::Result {
         write!(f, " refused by {}", self.0.number())?;
         if let Refusal::Unlawful { interval, rule } = self.0 {
+            let rule = rule.number();
             write!(f, ", interval {interval}, rule {rule}")?;
         }
         Ok(())

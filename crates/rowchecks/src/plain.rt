@@ -2,7 +2,7 @@
 use super::metres::{class_over, painted};
 use anyhow::Context;
 use books::BrakingBook;
-use codes::{Class, Code, Speed};
+use codes::{Class, Code, Rule, Speed};
 use rows::StopLetter;
 use rules::StopMark;
 use std::alloc::Global;
@@ -114,15 +114,15 @@ impl<'a, B: BrakingBook> Scene<'a, B> {
     }
 
     // The first of the rules 1 to 4 that a code breaks, if any.
-    pub fn first_of_four(&self, j: usize, code: Code) -> Option<u8> {
+    pub fn first_of_four(&self, j: usize, code: Code) -> Option<Rule> {
         if !self.obeys_1(j, code) {
-            Some(1)
+            Some(Rule::Touching)
         } else if !self.obeys_2(j, code) {
-            Some(2)
+            Some(Rule::Ahead)
         } else if !self.obeys_3(j, code) {
-            Some(3)
+            Some(Rule::Service)
         } else if !self.obeys_4(j, code) {
-            Some(4)
+            Some(Rule::Stopping)
         } else {
             None
         }

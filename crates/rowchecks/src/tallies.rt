@@ -1,4 +1,5 @@
 // What was compared by one book, and how it came out.
+use codes::Rule;
 use rows::StopLetter;
 use std::fmt;
 
@@ -34,15 +35,16 @@ impl Tally {
     }
 
     // Counts a row by the first rule that it breaks, if any.
-    pub fn count_row(&mut self, rule: Option<u8>) {
+    pub fn count_row(&mut self, rule: Option<Rule>) {
         count(&mut self.rows);
         let Some(rule) = rule else {
             count(&mut self.passes);
             return;
         };
-        let place = rule.saturating_sub(1) as usize;
-        if let Some(number) = self.by_rule.get_mut(place) {
-            count(number);
+        if let Some(place) = Rule::ALL.iter().position(|known| *known == rule) {
+            if let Some(number) = self.by_rule.get_mut(place) {
+                count(number);
+            }
         }
     }
 

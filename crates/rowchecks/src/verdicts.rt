@@ -1,27 +1,11 @@
 // What the rules say of each code of a scene, and of rows.
 use super::plain::Scene;
 use books::BrakingBook;
-use codes::{Code, Refusal, Speed};
-use rows::StopLetter;
+use codes::{Code, Rule, Speed};
+use rows::{Break, StopLetter};
 use std::alloc::Global;
 use std::iter::once;
 use trials::Sheet;
-
-// A broken rule by its number, and the interval that breaks it.
-#[derive(Clone, Copy, PartialEq, Eq)]
-pub struct Break {
-    pub interval: usize,
-    pub rule: u8,
-}
-
-impl From<Break> for Refusal {
-    fn from(broken: Break) -> Refusal {
-        Refusal::Unlawful {
-            interval: broken.interval,
-            rule: broken.rule,
-        }
-    }
-}
 
 // The codes of a scene, each tried once before each next code.
 #[derive(Drop)]
@@ -32,17 +16,17 @@ pub struct Verdicts<'a, B> {
     pub first: usize,
     pub letter: StopLetter,
     // the first rule that is broken, if any, by interval, code and next code
-    broken: Vec<[[Option<u8>; 10]; 10]>,
+    broken: Vec<[[Option<Rule>; 10]; 10]>,
 }
 
 // The first rule that each code breaks in interval j, if any, by code and next code; the stop ground begins with interval `first`.
-fn tried<B: BrakingBook>(scene: &Scene<'_, B>, first: usize, j: usize) -> [[Option<u8>; 10]; 10] {
+fn tried<B: BrakingBook>(scene: &Scene<'_, B>, first: usize, j: usize) -> [[Option<Rule>; 10]; 10] {
     let is_before_ground = j.saturating_add(1) < first;
     Code::ALL.map(|code| {
         let four = scene.first_of_four(j, code);
         Code::ALL.map(|next| {
             let is_five = four.is_none() && is_before_ground && !scene.obeys_5(j, code, next);
-            if is_five { Some(5) } else { four }
+            if is_five { Some(Rule::Next) } else { four }
         })
     })
 }
@@ -74,7 +58,7 @@ impl<'a, B: BrakingBook> Verdicts<'a, B> {
     }
 
     // The first rule that a code breaks in interval j before the next code, if any.
-    fn rule(&self, j: usize, code: Code, next: Code) -> Option<u8> {
+    fn rule(&self, j: usize, code: Code, next: Code) -> Option<Rule> {
         let by_code = self.broken.get(j)?;
         let by_next = by_code.get(rank(code))?;
         by_next.get(rank(next)).copied().flatten()

@@ -47,6 +47,7 @@ impl fmt::Display for Told {
         let word = word_of(refusal);
         match refusal {
             Refusal::Unlawful { interval, rule } => {
+                let rule = rule.number();
                 write!(f, "refused {number} {word} {interval} {rule}")
             }
             _ => write!(f, "refused {number} {word}"),
