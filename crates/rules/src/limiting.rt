@@ -2,13 +2,14 @@
 ghost use Rattle.std.specs.Prelude.{◌≡◌, ℕ, ◌-◌};
 ghost use Rattle.codes.specs.Speeds.{lower};
 ghost use Rattle.codes.specs.declared.speeds.Code.TheVariants.{Go};
+ghost use Rattle.std.specs.List.{AllByRecursion};
 ghost use Rattle.ground.specs.Ground.{stretch_value};
 ghost use Rattle.ground.specs.Kinds.{steepness};
 ghost use Rattle.rules.specs.Tracks.{Track, Mark};
 ghost use Rattle.rules.specs.Rules.{Down, train_length};
 ghost use Rattle.rules.specs.Readings.{Readings};
 ghost use Rattle.rules.specs.Searching.{UpTo};
-ghost use Rattle.rules.specs.Limits.{Served, Stopped, Placed, At, Caps, Within, within};
+ghost use Rattle.rules.specs.Limits.{Touched, Braked, Served, Stopped, At, Caps, Within, within};
 
 use super::braked::{highest_down, highest_emergency_stop, highest_service_stop};
 use super::lines::Line;
@@ -37,7 +38,10 @@ fn stopping_limit<B: BrakingBook>(gradients: &[Entry<Class>], place: &Place, boo
 
 // The highest code by each of the rules 1 to 4 at a place.
 fn placed_limits<B: BrakingBook>(line: &Line<'_>, place: &Place, book: &B) -> Limits
-    ensures { Placed (B.BrakingBook.emergencies book.now) (B.BrakingBook.services book.now) line.now.gradients.now line.now.restrictions.now place.now result }
+    ensures touching { UpTo (λ c. AllByRecursion (λ x. Touched place.now x c) line.now.restrictions.now) result.touching }
+    ensures ahead { UpTo (λ c. AllByRecursion (λ x. Braked (B.BrakingBook.emergencies book.now) line.now.gradients.now place.now x c) line.now.restrictions.now) result.ahead }
+    ensures service { UpTo (Served (B.BrakingBook.services book.now) line.now.gradients.now place.now) result.service }
+    ensures stopping { UpTo (Stopped (B.BrakingBook.emergencies book.now) line.now.gradients.now place.now) result.stopping }
 {
     Limits {
         touching: touching_limit(line.restrictions, place),

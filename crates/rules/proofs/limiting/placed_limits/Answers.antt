@@ -3,15 +3,12 @@ use Rattle.rules.specs.Searching.{UpTo}
 use Rattle.rules.proofs.Lowest.{touching_lowest, ahead_lowest}
 use Rattle.rules.proofs.limiting.placed_limits.Goals as goal
 
-pub returns : goal.returns
-returns g c =
+pub returns-clause-touching : goal.returns-clause-touching
+returns-clause-touching g c = subst (UpTo _) (sym c.touching_limit.ensures) (touching_lowest c.args.place.now c.args.line.now.restrictions.now)
+
+pub returns-clause-ahead : goal.returns-clause-ahead
+returns-clause-ahead g c =
     let book = c.args.book.now in
     let line = c.args.line.now in
-    let place = c.args.place.now in
-    let ahead = ahead_lowest (g.B.BrakingBook.emergencies book) (g.B.BrakingBook.services book) (g.B.BrakingBook.laws book) line.gradients.now place line.restrictions.now in
-    record {
-      touching = subst (UpTo _) (sym c.touching_limit.ensures) (touching_lowest place line.restrictions.now);
-      ahead = subst (UpTo _) (sym c.ahead_limit.ensures) ahead;
-      service = c.service_limit.ensures;
-      stopping = c.stopping_limit.ensures;
-    }
+    subst (UpTo _) (sym c.ahead_limit.ensures)
+    (ahead_lowest (g.B.BrakingBook.emergencies book) (g.B.BrakingBook.services book) (g.B.BrakingBook.laws book) line.gradients.now c.args.place.now line.restrictions.now)
