@@ -16,7 +16,7 @@ use super::survey::Survey;
 use books::BrakingBook;
 use codes::{Class, Code, Refusal, Speed};
 use ground::worst_over;
-use rules::Line;
+use rules::{Line, TRAIN_LENGTH};
 use std::alloc::Global;
 
 // The letter of a class.
@@ -55,7 +55,7 @@ fn ground_told<B: BrakingBook>(survey: &Survey<'_, B>, pass: &Pass) -> (StopLett
     requires approach { pass.now.interval ≡ 0 }
     ensures { Grounded (drawing_of survey.now.line) survey.now.target (B.emergencies survey.now.book.now) (B.services survey.now.book.now) result.0 result.1 }
 {
-    let from = pass.ground.saturating_sub(170);
+    let from = pass.ground.saturating_sub(TRAIN_LENGTH);
     let class = worst_over(survey.line.gradients, from, survey.target.position);
     (letter_of(class), pass.first)
 }
