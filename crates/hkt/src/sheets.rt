@@ -72,7 +72,7 @@ impl Sheet {
         })
     }
 
-    // Enters an interval; a refusal leaves the sheet as it was.
+    // Enters an interval; a refusal leaves the sheet as it was. The four calls differ in what the library is asked for.
     pub fn enter_interval(&mut self, number: u16, length: u32) -> Result<(), Refusal> {
         let table = &mut self.intervals;
         table.count = enter_interval(&mut table.records, table.count, number, length)?;

@@ -55,7 +55,7 @@ fn ordered(kind: Kind, words: &mut Words<'_>, row: &mut Vec<u8>) -> Result<Order
 
 // Reads a line: the order that it gives, or none where it has no word, and into the buffer the bytes of the row that it has; the
 // buffer is empty where it has none. A line that is none of the orders, or has a number that its place cannot hold, is unclear.
-// Where memory fails, nothing is said of the buffer.
+// Where memory fails, nothing is said of the buffer. It stands beside the order, so that one buffer serves all lines.
 pub fn read_order(line: &[u8], row: &mut Vec<u8>) -> Result<Option<Order>, Unread>
     ensures { IsRead (meaning (words_of line.now)) result row.new.items }
 {

@@ -3,7 +3,7 @@ ghost use Rattle.std.specs.Prelude.{◌≡◌, position};
 ghost use Rattle.std.specs.List.{before_first, after_first};
 ghost use Rattle.texts.specs.Cuts.{separates};
 
-// What ends a piece of text.
+// What ends a piece of text. An enum is plainer here than a closure: a contract can name the byte test of each separator.
 #[derive(Clone, Copy)]
 pub enum Separator {
     // A line feed ends a line.

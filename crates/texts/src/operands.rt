@@ -56,6 +56,7 @@ impl<'a> Words<'a> {
         ensures { Fills (words_in self.old.rest.now) result buffer.new.items }
     {
         for word in self {
+            // With `ok_or` and `?` the proof does not close.
             let Some(byte) = u8::read(word) else {
                 return Err(Unread::Unclear);
             };

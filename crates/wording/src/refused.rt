@@ -5,7 +5,7 @@ ghost use Rattle.wording.specs.Wordings.{word_of, refusal_text};
 use codes::{BookFault, FileFault, RecordFault, Refusal};
 use std::fmt;
 
-// The word of a refusal.
+// The word of a refusal. The match is the table of the words.
 fn word_of(refusal: Refusal) -> &'static str
     ensures { result.now ≡ word_of refusal }
 {
