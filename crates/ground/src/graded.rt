@@ -48,6 +48,7 @@ impl Graded for Class {
         ensures value { result ≡ steepness.worse self other }
         ensures steeper { number result ≡ max (number self) (number other) }
     {
+        // Not by `max`: what it answers was not found to have the higher number.
         if self < other { other } else { self }
     }
 }

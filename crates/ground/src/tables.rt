@@ -1,4 +1,5 @@
-// Tables that are lent as slices with a count: the first `count` records are in use, and there may be room behind them.
+// Tables that are lent as slices with a count: the first `count` records are in use, and there may be room behind them. The
+// count stands beside the slice, since the tables are the callers' own.
 ghost use Rattle.std.specs.Prelude.{◌≡◌, length, is_ok, if◌then◌else◌, slice_set};
 ghost use Rattle.codes.specs.Refusals.{told};
 ghost use Rattle.codes.specs.Refusals.Told.{gives};

@@ -8,6 +8,9 @@ use super::searching::{SpeedTest, highest_passing};
 use books::BrakingBook;
 use codes::{Class, Code, Speed};
 
+// The tests are structs and not closures: a closure's own equation is known only where the search is proved by hand, so that a
+// fault in its order would not be refused at the code.
+
 // Passed by a speed from which emergency braking brings a train down to a code within so many metres of a class.
 #[derive(Drop)]
 struct EmergencyTest<'a, B> {

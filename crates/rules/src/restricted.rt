@@ -23,6 +23,7 @@ pub fn class_from(gradients: &[Entry<Class>], end: u64, to: u64) -> Class
 pub fn lower_of(one: Code, other: Code) -> Code
     ensures { result ≡ lower_of one other }
 {
+    // Not by `min`: what it answers was not found to be the lower byte.
     if other < one { other } else { one }
 }
 
