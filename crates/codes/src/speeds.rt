@@ -40,7 +40,7 @@ impl Speed {
     ];
 
     // The speed of so many km/h, or none where it is not one of the nine.
-    pub fn from_kmh(kmh: u8) -> Option<Speed>
+    fn of_kmh(kmh: u8) -> Option<Speed>
         ensures { result ≡ speed_of kmh }
     {
         Speed::ALL.iter().copied().find(|speed| speed.kmh() == kmh)
@@ -70,13 +70,13 @@ impl Code {
     ];
 
     // The code of a byte: 0 is stop, a speed's km/h that speed; none where the byte is no code.
-    pub fn from_byte(byte: u8) -> Option<Code>
+    fn of_byte(byte: u8) -> Option<Code>
         ensures { result ≡ code_of byte }
     {
         if byte == 0 {
             return Some(Code::Stop);
         }
-        Speed::from_kmh(byte).map(Code::Go)
+        Speed::of_kmh(byte).map(Code::Go)
     }
 
     // The byte of a code: 0 for stop, else the speed's km/h.
@@ -89,7 +89,7 @@ impl Code {
         }
     }
 
-    // Whether the code ranks below another; stop ranks below every speed.
+    // Whether the code ranks below another; stop ranks below every speed. The same as `<`, which has no contract to say it in.
     pub fn is_below(self, other: Code) -> bool
         ensures { result ≡ lower self other }
     {
@@ -104,7 +104,7 @@ impl TryFrom<u8> for Speed {
     ghost try_from_gives = { Drives };
 
     fn try_from(kmh: u8) -> Result<Speed, Refusal> {
-        Speed::from_kmh(kmh).ok_or(Refusal::Speed)
+        Speed::of_kmh(kmh).ok_or(Refusal::Speed)
     }
 }
 
@@ -115,6 +115,6 @@ impl TryFrom<u8> for Code {
     ghost try_from_gives = { Reads };
 
     fn try_from(byte: u8) -> Result<Code, Refusal> {
-        Code::from_byte(byte).ok_or(Refusal::Byte)
+        Code::of_byte(byte).ok_or(Refusal::Byte)
     }
 }
