@@ -11,11 +11,8 @@ use super::telling::told_at;
 use books::BrakingBook;
 use codes::{Class, Code};
 use ground::{Entry, value_at, worst_over};
-use rules::Interval;
+use rules::{Interval, TRAIN_LENGTH};
 use trains::Train;
-
-// the longest train, in metres
-const TRAIN_LENGTH: u64 = 170;
 
 // positions end here
 const LAST_POSITION: u32 = 500_000;
