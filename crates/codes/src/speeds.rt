@@ -39,7 +39,8 @@ impl Speed {
         Speed::V120,
     ];
 
-    // The speed of so many km/h, or none where it is not one of the nine.
+    // The speed of so many km/h, or none where it is not one of the nine. As `Class::of_number`: one for both would take the list and
+    // the number as parameters, and be no shorter.
     fn of_kmh(kmh: u8) -> Option<Speed>
         ensures { result ≡ speed_of kmh }
     {

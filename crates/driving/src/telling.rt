@@ -11,7 +11,7 @@ ghost use Rattle.driving.specs.Driving.{track_over, code_in, is_told, Due};
 use codes::Code;
 use rules::Interval;
 
-// The code of a byte; stop where it is no code.
+// The code of a byte; stop where it is no code. As in `rows`: a line, which each crate has for itself.
 fn code_of(byte: u8) -> Code
     ensures { result ≡ read_code byte }
 {

@@ -1,4 +1,6 @@
 // The test of the four laws over any figures: each against those of the neighbouring questions.
+//
+// What is asked goes from function to function as class, from and to: a struct of them would be taken apart again at each figure.
 ghost use Rattle.std.specs.Prelude.{◌≡◌, Decides};
 ghost use Rattle.std.specs.List.{list_all};
 ghost use Rattle.codes.specs.Speeds.{codes};
@@ -8,7 +10,8 @@ ghost use Rattle.laws.specs.Order.{next_speed, next_code, next_class, next_to_ke
 use super::figures::Figures;
 use codes::{Class, Code, Speed};
 
-// The next higher of the nine speeds.
+// The next higher of the nine speeds. The three of this kind are a line each; one for all would take a list of any type with an
+// order, and each call a lemma from that order back to km/h, bytes and numbers.
 fn next_speed(speed: Speed) -> Option<Speed>
     ensures { result ≡ next_speed speed }
 {

@@ -1,6 +1,5 @@
 // Finding the highest row: from the mark's interval back, each interval gets the highest code that it may have before the next.
-ghost use Rattle.std.specs.Prelude.{◌≡◌, min, length, slice_index_or};
-ghost use Rattle.codes.specs.Speeds.{byte};
+ghost use Rattle.std.specs.Prelude.{◌≡◌, length, slice_index_or};
 ghost use Rattle.rules.specs.Searching.{UpTo};
 ghost use Rattle.rows.specs.Targets.{track_of, mark_of};
 ghost use Rattle.rows.specs.Finding.{FoundFrom};
@@ -11,14 +10,7 @@ use super::passing::{FiveCaps, Pass};
 use super::survey::Survey;
 use books::BrakingBook;
 use codes::Code;
-use rules::highest_code;
-
-// The lower of two codes.
-fn lower_of(one: Code, other: Code) -> Code
-    ensures { byte result ≡ min (byte one) (byte other) }
-{
-    if other < one { other } else { one }
-}
+use rules::{highest_code, lower_of};
 
 // The highest code within all five.
 pub(super) fn highest_within(caps: &FiveCaps) -> Code

@@ -23,7 +23,7 @@ use std::alloc::Global;
 fn letter_of(class: Class) -> StopLetter
     ensures { result ≡ letter_of class }
 {
-    if class.number() > 9 {
+    if class > Class::C9 {
         StopLetter::Sf
     } else {
         StopLetter::Sv

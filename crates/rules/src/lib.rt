@@ -12,4 +12,5 @@ mod searching;
 pub use limiting::{highest_code, highest_towards, limits_at};
 pub use lines::{Interval, Line, StopMark};
 pub use places::{Limits, Place, TRAIN_LENGTH};
+pub use restricted::lower_of;
 pub use searching::{SpeedTest, highest_passing};

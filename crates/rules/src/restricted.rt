@@ -1,5 +1,6 @@
 // The highest codes of an interval by the restrictions that touch it and by those ahead of it.
-ghost use Rattle.std.specs.Prelude.{◌≡◌, ◌-◌, map};
+ghost use Rattle.std.specs.Prelude.{◌≡◌, ◌-◌, min, map};
+ghost use Rattle.codes.specs.Speeds.{byte};
 ghost use Rattle.ground.specs.Ground.{stretch_value};
 ghost use Rattle.ground.specs.Kinds.{steepness};
 ghost use Rattle.rules.specs.Rules.{train_length};
@@ -21,7 +22,8 @@ pub fn class_from(gradients: &[Entry<Class>], end: u64, to: u64) -> Class
 
 // The lower of two codes.
 pub fn lower_of(one: Code, other: Code) -> Code
-    ensures { result ≡ lower_of one other }
+    ensures value { result ≡ lower_of one other }
+    ensures byte { byte result ≡ min (byte one) (byte other) }
 {
     // Not by `min`: what it answers was not found to be the lower byte.
     if other < one { other } else { one }
