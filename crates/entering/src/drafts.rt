@@ -17,8 +17,11 @@ pub trait Draft: Copy {
     // How many records of the kind a line has at most, the first refusal that is due beside the records in use, the record that is
     // written, and what a written record fulfils.
     ghost MOST: { ℕ };
+
     ghost flaw: { Self → List Self.Record → Option Refusal };
+
     ghost written: { Self → Self.Record };
+
     ghost Fit: { Self.Record → Type 0 };
 
     const MOST: usize;
