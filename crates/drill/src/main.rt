@@ -37,26 +37,23 @@ fn drill(rt: &HostRuntime) -> anyhow::Result<()> {
         danger: 0,
     }; 2];
     let mut row_table = [0u8; 64];
-    let Ok(closed) = closed_sheet(
+    let closed = closed_sheet(
         &mut intervals,
         &mut gradients,
         &mut restrictions,
         &mut marks,
-    ) else {
-        return Err(anyhow!("the sheet was refused"));
-    };
+    )
+    .map_err(|_| anyhow!("the sheet was refused"))?;
     let lent = LentTables {
         intervals: &intervals,
         gradients: &gradients,
         restrictions: &restrictions,
         marks: &marks,
     };
-    let Ok(train) = LateTrain::new(100) else {
-        return Err(anyhow!("the train was refused"));
-    };
-    let Ok(passed) = passed_sheet(closed, &lent, &mut row_table, &PublishedBook) else {
-        return Err(anyhow!("the row was refused"));
-    };
+    let train = LateTrain::new(100).map_err(|_| anyhow!("the train was refused"))?;
+    let passed = passed_sheet(closed, &lent, &mut row_table, &PublishedBook).map_err(|_| anyhow!(
+        "the row was refused"
+    ))?;
     drive(rt, passed, train, &intervals, &gradients, &row_table)
 }
 

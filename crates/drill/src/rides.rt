@@ -21,7 +21,7 @@ pub fn passed_sheet<'b, B: BrakingBook>(
         .map_err(|refused| refused.why)
 }
 
-// Steps until the train stands, and tells where its pace changes; nothing where the sheet was refused a step.
+// Steps until the train stands, and tells where its pace changes. Fails where a step is refused.
 fn tell_steps<B: BrakingBook, T: Train>(
     rt: &HostRuntime,
     running: &mut RunningSheet<'_, B, T>,
@@ -31,9 +31,9 @@ fn tell_steps<B: BrakingBook, T: Train>(
 ) -> anyhow::Result<()> {
     let mut pace = None;
     for _ in 0..2_000 {
-        let Ok(report) = running.step(intervals, gradients, row_table) else {
-            return Err(anyhow!("a step was refused"));
-        };
+        let report = running
+            .step(intervals, gradients, row_table)
+            .map_err(|_| anyhow!("a step was refused"))?;
         if pace != Some(report.pace) {
             pace = Some(report.pace);
             let position = report.position;
@@ -57,9 +57,9 @@ pub fn drive<B: BrakingBook, T: Train + Drop>(
     gradients: &[Entry<Class>],
     row_table: &[u8],
 ) -> anyhow::Result<()> {
-    let Ok(mut running) = passed.set_off(train, gradients, row_table) else {
-        return Err(anyhow!("the train was not set off"));
-    };
+    let mut running = passed
+        .set_off(train, gradients, row_table)
+        .map_err(|_| anyhow!("the train was not set off"))?;
     tell_steps(rt, &mut running, intervals, gradients, row_table)?;
     let (_closed, train) = running.leave();
     let pace = train.pace();

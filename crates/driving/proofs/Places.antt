@@ -1,24 +1,14 @@
 -- Where the intervals of a line end, and where the stop ground begins. Assumes nothing.
-use Rattle.std.proofs.Common.{◌≡◌, ℕ, zero, suc, ◌+◌, ◌<◌, ◌≤◌, List, [], ◌∷◌, length, get_or, refl, subst, zero-le, arith}
-use native.Mathlib.Decide.{dec_le, dec_lt, ℕ_discrete}
+use Rattle.std.proofs.Common.{◌≡◌, ℕ, zero, suc, ◌+◌, ◌<◌, ◌≤◌, length, refl, subst, zero-le, arith}
+use native.Mathlib.Decide.{dec_lt, ℕ_discrete}
 use Rattle.std.proofs.ByRecursion.{All-get_or}
 use Rattle.codes.specs.declared.speeds.Code.TheVariants.{Stop, Go}
 use Rattle.laws.specs.Books.{Emergencies, Services, Distances}
-use Rattle.rules.specs.Tracks.{Track, Mark, Stands, moved_on, begin_of, end_of, length_of}
+use Rattle.rules.specs.Tracks.{Track, Mark, Stands, begin_of, end_of, length_of}
 use Rattle.rules.specs.Rules.{class_from, Stops, InGround}
+use Rattle.rules.proofs.Moved.{moved_none, moved_more, moved_rises}
 use Rattle.driving.specs.Safety.{Drawn}
 use Rattle.driving.proofs.Decided.{dec_stops}
-
-pub moved_none : (a : ℕ) (xs : List ℕ) → moved_on a xs 0 ≡ a
-unfolding moved_on
-moved_none a xs = refl
-
-pub moved_more : (a : ℕ) (xs : List ℕ) (j : ℕ) → moved_on a xs (suc j) ≡ moved_on a xs j + get_or xs j 0
-unfolding moved_on
-moved_more a [] zero = omega arith
-moved_more a [] (suc j) = omega arith
-moved_more a (x ∷ xs) zero = refl
-moved_more a (x ∷ xs) (suc j) = moved_more (a + x) xs j
 
 module _ (track : Track) where
   pub end_more : (j : ℕ) → end_of track (suc j) ≡ end_of track j + length_of track (suc j)
@@ -28,12 +18,7 @@ module _ (track : Track) where
   end_first = moved_none track.start track.lengths
 
   pub end_rises : (i j : ℕ) → i ≤ j → end_of track i ≤ end_of track j
-  end_rises i zero h = let e : i ≡ 0 = omega arith in rw e (omega arith)
-  end_rises i (suc j) h =
-      elim (dec_le i j) [
-        | yes under ↦ omega (arith, end_rises i j under, end_more j)
-        | no last ↦ let e : i ≡ suc j = omega arith in rw e (omega arith)
-      ]
+  end_rises i j h = moved_rises track.start track.lengths i j h
 
   pub begin_end : (j : ℕ) → begin_of track j ≤ end_of track j
   begin_end zero = omega (arith, end_first)

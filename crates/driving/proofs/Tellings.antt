@@ -17,7 +17,8 @@ use Rattle.rows.specs.Passing.{read_code, codes_of}
 use Rattle.driving.specs.Journeys.{Differs}
 use Rattle.driving.specs.Driving.{track_over, code_in, is_told, FirstDue}
 use Rattle.driving.proofs.Decided.{same_byte}
-use Rattle.driving.proofs.Places.{moved_none, moved_more, end_rises}
+use Rattle.rules.proofs.Moved.{moved_none, moved_more}
+use Rattle.driving.proofs.Places.{end_rises}
 
 -- ---- the test for one interval
 

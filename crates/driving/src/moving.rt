@@ -96,18 +96,15 @@ pub fn advance<B: BrakingBook, T: Train>(
     ensures { Advances (B.BrakingBook.emergencies book.now) start intervals.now gradients.now row.now (under_way head (T.Train.numbers train.old)) (under_way result (T.Train.numbers train.new)) }
 {
     roll_from(train, book, gradients, head.position);
-    let position = next_position(head.position);
-    match told_at(start, intervals, row, position, head.told) {
-        None => Head {
-            position,
-            told: head.told,
-        },
-        Some(code) => {
-            hear_at(train, book, gradients, position, code);
-            Head {
-                position,
-                told: code,
-            }
+    let there = Head {
+        position: next_position(head.position),
+        ..head
+    };
+    match told_at(start, intervals, row, there) {
+        None => there,
+        Some(told) => {
+            hear_at(train, book, gradients, there.position, told);
+            Head { told, ..there }
         }
     }
 }

@@ -8,6 +8,7 @@ ghost use Rattle.rows.specs.Drawings.{lengths_of};
 ghost use Rattle.rows.specs.Passing.{read_code, codes_of};
 ghost use Rattle.driving.specs.Driving.{track_over, code_in, is_told, Due};
 
+use super::heads::Head;
 use codes::Code;
 use rules::Interval;
 
@@ -39,25 +40,20 @@ fn is_told(begin: u64, position: u64, code: Code, told: Code) -> bool
     begin == position && code != told
 }
 
-// The code that a train hears at a position: that of the first interval up to the row's last that begins there and whose code is
+// The code that a train hears where its head is: that of the first interval up to the row's last that begins there and whose code is
 // not the one told last; none where there is no such interval.
-pub(super) fn told_at(
-    start: u32,
-    intervals: &[Interval],
-    row: &[u8],
-    position: u32,
-    told: Code,
-) -> Option<Code>
-    ensures { (gradients : List (Entry Class)) (restrictions : List (Entry Speed)) (mark : Mark) → mark.interval ≡ length row.now → Due (track_over start intervals.now gradients restrictions) mark (codes_of row.now) position told result }
+pub(super) fn told_at(start: u32, intervals: &[Interval], row: &[u8], head: Head) -> Option<Code>
+    ensures { (gradients : List (Entry Class)) (restrictions : List (Entry Speed)) (mark : Mark) → mark.interval ≡ length row.now → Due (track_over start intervals.now gradients restrictions) mark (codes_of row.now) head.position head.told result }
 {
-    let sought = position as u64;
+    let sought = head.position as u64;
     let mut begin = start as u64;
+    // A row may reach beyond the intervals that are lent, so the two are not zipped.
     for (place, &byte) in row.iter().enumerate() {
         if sought < begin {
             return None;
         }
         let code = code_of(byte);
-        if is_told(begin, sought, code, told) {
+        if is_told(begin, sought, code, head.told) {
             return Some(code);
         }
         begin += length_at(intervals, place) as u64;

@@ -1,5 +1,5 @@
 -- The class of a faldtal is the first whose edge it does not fall below. Assumes nothing.
-use Rattle.std.proofs.Common.{◌≡◌, ℕ, zero, suc, ◌+◌, ◌-◌, ◌<◌, ◌≤◌, true, List, [], ◌∷◌, length, get_or, ℤ, ◌≤ℤ◌, sym, refl, ap, ◌∙◌, not-suc-le-zero, arith}
+use Rattle.std.proofs.Common.{◌≡◌, ℕ, zero, suc, ◌+◌, ◌-◌, ◌<◌, ◌≤◌, true, List, [], ◌∷◌, length, get_or, ℤ, ◌≤ℤ◌, refl, not-suc-le-zero, arith}
 use lib.Signed.{le_z}
 use Rattle.std.proofs.lemmas.Int.{ints, by_lt_z}
 use Rattle.codes.specs.declared.gradients.Class.{Class}
@@ -30,7 +30,7 @@ place_of C10 = (omega arith, omega arith, refl)
 place_of C11 = (omega arith, omega arith, refl)
 
 same_class : (j k : Class) → number j ≡ number k → j ≡ k
-same_class j k e = sym (place_of j).2 ∙ ap (λ n. get_or classes (n - 1) C1) e ∙ (place_of k).2
+same_class j k e = grind arith
 
 module _ (f : ℤ) where
   reached : (ks : List Class) → le_z (edge C11) f ≡ true → le_z (edge (first_reached f ks)) f ≡ true

@@ -9,7 +9,7 @@ use super::drafts::{Draft, enter};
 use codes::{Refusal, Speed};
 use ground::Entry;
 
-// A restriction is drawn by its km/h.
+// A restriction is drawn by its km/h. Its check is a gradient's with another value to read; a trait for that one line would be longer.
 #[tactic(auto, unfolding(crate::specs::Entering::no_speed, crate::specs::Entering::speed_of_kmh))]
 impl Draft for Entry<u8> {
     type Record = Entry<Speed>;
