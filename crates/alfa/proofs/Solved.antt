@@ -31,6 +31,7 @@ use Rattle.alfa.specs.declared.table.Example.TheVariants.{Highest, NoRow, Passes
 use Rattle.alfa.specs.Sheets.{track_for, mark_for}
 use Rattle.alfa.specs.Examples.{Holds}
 use Rattle.alfa.specs.Table.{table}
+use Rattle.codes.proofs.Edges.{edge_low}
 use Rattle.codes.proofs.Firsts.{FirstPassing, first_class}
 use Rattle.alfa.proofs.Tests.{decides_allows}
 use Rattle.alfa.proofs.Solving.{ground_begin, highest_row, by_changes, work, four, verdict, judge, class_told, classify, solve}
@@ -87,14 +88,11 @@ module _ (sheet : Variant) (approach : Speed) where
 
 -- ---- faldtal
 
-edge_least : (k : Class) → edge C11 ≤ℤ edge k
-edge_least k = grind (arith, ints)
-
 module _ (f : ℤ) where
   class_by : f ≤ℤ pos 350 → (o : Option Class) → FirstPassing number (λ k. le_z (edge k) f) o → Holds (class_told f o)
   class_by high None none = λ faldtal. let below = none C11 in let low = faldtal.0 in grind (arith, ints)
   class_by high (Some k) (reached, flatter) =
-      let least = edge_least k in
+      let least = edge_low k in
       let reaches : edge k ≤ℤ f = grind (arith, ints) in
       ((omega (arith, ints), high), record { reaches = reaches; flatter = λ j l. let above = flatter j l in grind (arith, ints) })
 

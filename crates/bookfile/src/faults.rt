@@ -4,7 +4,8 @@ ghost use Rattle.bookfile.specs.Faults.{located};
 
 use codes::Refusal;
 
-// Why a file was refused, and the byte where the faulty record begins: the file's size for 19 and 20, and 0 for 10.
+// Why a file was refused, and the byte where the faulty record begins: the file's size for 19 and 20, and 0 for 10, since
+// a host is told a place with each refusal.
 #[derive(Clone, Copy)]
 pub struct Fault {
     pub refusal: Refusal,

@@ -72,7 +72,7 @@ fn emergency_record<'a>(class: u8, from: u8, to: u8, metres: u16) -> Result<Reco
     })
 }
 
-// What a kind 2 record says by its bytes.
+// What a kind 2 record says by its bytes. Apart from kind 1: the two differ in their fields and are six lines each.
 fn service_record<'a>(class: u8, from: u8, metres: u16) -> Result<Record<'a>, Refusal>
     ensures said { told_record result ≡ service_entry class from metres }
     ensures placed { (place : ℕ) → IfOk result (Placed place) }

@@ -24,8 +24,8 @@ fn figure_beside(table: &[Figure], from: Speed, to: Code) -> Option<Figure>
         .find(|figure| figure.is_beside(from, to))
 }
 
-// The distance in metres that stands in a table beside its headings; 0 where none does, and not none: a table has a figure for
-// every question that is asked of it.
+// The distance in metres that stands in a table beside its headings; 0 where none does. No `None`: a table has a
+// figure for every question that is asked of it.
 #[tactic(auto, unfolding(crate::specs::Printed::beside))]
 fn metres_beside(table: &[Figure], from: Speed, to: Code) -> u16
     ensures { result ≡ beside table.now from to }

@@ -28,9 +28,6 @@ module _ (E : Emergencies) (D : Services) where
   pub classes_size : length (bytes_of E D (flat_map of_class classes)) ≡ 5247
   classes_size = ap (λ qs. length (bytes_of E D qs)) in_writing_order ∙ file_size
 
-  pub classes_room : (before : List ℕ) → length before ≡ 5247 → 0 + length (bytes_of E D (flat_map of_class classes)) ≤ length before
-  classes_room before full = let size = classes_size in omega arith
-
   -- questions whose places count up from n state those alone, and each once
   module _ (q : Question) where
     given_none : (qs : List Question) (n : ℕ) → ((i : ℕ) → i < length qs → place (get_or qs i q) ≡ n + i) → place q < n → given q (map (stated E D) qs) ≡ []

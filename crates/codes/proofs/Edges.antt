@@ -8,7 +8,7 @@ use Rattle.codes.specs.declared.refusals.Refusal.TheVariants as refusal
 use Rattle.codes.specs.Gradients.{number, edge, first_reached, Classed}
 use Rattle.codes.proofs.Firsts.{FirstPassing, first_class}
 
-edge_low : (k : Class) → edge C11 ≤ℤ edge k
+pub edge_low : (k : Class) → edge C11 ≤ℤ edge k
 edge_low k = grind (arith, ints)
 
 module _ (f : ℤ) where

@@ -1,3 +1,3 @@
 pub mod Firsts
-mod Edges
+pub mod Edges
 pub mod Numbered

@@ -74,10 +74,7 @@ impl Code {
     fn of_byte(byte: u8) -> Option<Code>
         ensures { result ≡ code_of byte }
     {
-        if byte == 0 {
-            return Some(Code::Stop);
-        }
-        Speed::of_kmh(byte).map(Code::Go)
+        Code::ALL.iter().copied().find(|code| code.byte() == byte)
     }
 
     // The byte of a code: 0 for stop, else the speed's km/h.
@@ -90,7 +87,8 @@ impl Code {
         }
     }
 
-    // Whether the code ranks below another; stop ranks below every speed. The same as `<`, which has no contract to say it in.
+    // Whether the code ranks below another; stop ranks below every speed. For
+    // callers that want the order with its contract; it is that of `<`.
     pub fn is_below(self, other: Code) -> bool
         ensures { result ≡ lower self other }
     {

@@ -32,7 +32,8 @@ pub struct Due {
     pub place: usize,
 }
 
-// A damage, the record it is done to, and the refusal that is due, if one is.
+// A damage, the record it is done to, and the refusal that is due: an `Option`, since a test compares it and
+// hands no error on.
 #[derive(Clone, Copy)]
 pub struct Case {
     pub record: usize,

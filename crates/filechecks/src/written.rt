@@ -20,7 +20,7 @@ pub fn published(heap: Global) -> anyhow::Result<Vec<u8>> {
     Ok(buffer)
 }
 
-// Whether a buffer of `size` bytes is refused by 10 and left as it was.
+// Whether a buffer of `size` bytes is refused by 10, the number that a host is told, and left as it was.
 pub fn refuses_buffer(heap: Global, size: usize) -> anyhow::Result<bool> {
     let mut buffer = vec![in heap; 9u8; size]?;
     let outcome = write(&PublishedBook, &mut buffer);

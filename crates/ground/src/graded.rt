@@ -53,7 +53,8 @@ impl Graded for Class {
     }
 }
 
-// The lower speed is worse, and undrawn ground is under no restriction.
+// The lower speed is worse, and undrawn ground is under no restriction. Each kind has a line of its own for `worse`: they differ in the
+// direction.
 impl Graded for Speed {
     ghost grading = { slowness };
 

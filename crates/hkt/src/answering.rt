@@ -63,6 +63,7 @@ fn answered(
     if let Some(sheet) = sheet {
         return carried_out(heap, sheet, order, row).map(Some);
     }
+    // the first start; a later one begins the sheet anew where it is carried out
     let Order::Start { start } = order else {
         return Err(Fault::NoStart);
     };

@@ -100,7 +100,7 @@ impl Sheet {
         Ok(())
     }
 
-    // The line, as the library takes it.
+    // The line, as the library takes it. As that of `trials`, over tables of fixed room.
     pub fn line(&self) -> Line<'_> {
         Line {
             start: self.start,

@@ -19,7 +19,7 @@ pub struct Table<'a> {
     pub figures: &'a [u16],
 }
 
-// The place of a speed among the nine, from 0.
+// The place of a speed among the nine, from 0: the match is the table of the places.
 fn column(speed: Speed) -> usize
     ensures { result ≡ column speed }
 {
@@ -70,7 +70,7 @@ pub fn service_place(class: Class, from: Speed) -> usize
     54 * (class.number() as usize - 1) + 45 + column(from)
 }
 
-// The figure at a place, 0 past the end.
+// The figure at a place, 0 past the end: figures answer every question.
 fn figure_at(table: &[u16], place: usize) -> u16
     ensures { result ≡ slice_index table.now place }
 {

@@ -22,6 +22,7 @@ pub const FALDTAL: [(i32, Option<u8>); 27] = [
 pub fn is_of_class(faldtal: i32, class: Option<u8>) -> bool {
     match Class::of_faldtal(faldtal) {
         Ok(found) => class == Some(found.number()),
+        // the number that a host is told
         Err(refusal) => class.is_none() && refusal.number() == 5,
     }
 }

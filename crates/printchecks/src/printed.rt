@@ -125,18 +125,15 @@ fn code(word: &str) -> anyhow::Result<Code> {
     if word == "stop" {
         return Ok(Code::Stop);
     }
-    let Ok(speed) = Speed::try_from(word.parse::<u8>()?) else {
-        return Err(anyhow!("a row is headed by no code"));
-    };
+    let speed = Speed::try_from(word.parse::<u8>()?).map_err(|_| anyhow!(
+        "a row is headed by no code"
+    ))?;
     Ok(Code::Go(speed))
 }
 
 // The class that a line names.
 fn class(word: &str) -> anyhow::Result<Class> {
-    let Ok(class) = Class::try_from(word.parse::<u8>()?) else {
-        return Err(anyhow!("there is no such class"));
-    };
-    Ok(class)
+    Class::try_from(word.parse::<u8>()?).map_err(|_| anyhow!("there is no such class"))
 }
 
 // A book that a print is compared with, and what came of it so far.

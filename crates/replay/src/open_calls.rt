@@ -28,7 +28,7 @@ pub(super) fn on_open<'b, B: BrakingBook, T: Train + Drop>(
     ensures by { (book : B) → By book result.0 }
 {
     let Call { lent, action } = call;
-    // Each arm returns, so that each is proved by itself.
+    // Each arm returns, so that each is proved by itself, and cuts the lent part of its own table.
     match action {
         Action::EnterInterval { number, length } => {
             let room = lent.intervals.min(intervals.len());

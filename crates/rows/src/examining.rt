@@ -39,7 +39,7 @@ fn are_codes(row: &[u8]) -> bool
     row.iter().all(|byte| is_code(*byte))
 }
 
-// The code of a byte; stop where it is no code.
+// The code of a byte; stop where it is no code. As in `driving`: a line, which each crate has for itself.
 fn code_of(byte: u8) -> Code
     ensures { result ≡ read_code byte }
 {
@@ -63,6 +63,7 @@ fn first_break<B: BrakingBook>(survey: &Survey<'_, B>, approach: Speed, row: &[u
 {
     let mut pass = survey.pass();
     let mut found = None;
+    // a fold would carry the pass and the break in one pair through each clause
     for byte in row.iter().rev() {
         let caps = survey.caps(&pass);
         let code = code_of(*byte);
@@ -93,6 +94,7 @@ pub fn examine<B: BrakingBook>(
         target,
         book,
     };
+    // a break is what is looked for, and an error only here
     match first_break(&survey, speed, row) {
         None => Ok(()),
         Some(found) => Err(found.into()),

@@ -45,6 +45,7 @@ fn holding(start: u32, intervals: &[Interval], position: u32) -> Option<Held>
     if sought <= begin {
         return None;
     }
+    // it stops with three figures of the interval, so a `scan` and `find` would be longer
     for (i, interval) in intervals.iter().enumerate() {
         let end = begin + interval.length as u64;
         if is_not_behind(sought, end) {

@@ -39,7 +39,9 @@ fn is_allowed<B: BrakingBook>(survey: &Survey<'_, B>, pass: &Pass, approach: Spe
     Code::Go(approach) <= highest_within(&survey.caps(pass))
 }
 
-// Copies the row that was found where it is lawful; else the row's bytes stay as they are.
+// Copies the row that was found where it is lawful; else the row's bytes stay as they are. A function with the flag, so that
+// what stays of the bytes is said where they are written: with the test in `settled`, a copy before it was refused only where `settled`
+// is proved by hand.
 fn copy_lawful(lawful: bool, row: &mut [u8], found: &[u8])
     requires { length row.old ≡ length found.now }
     ensures { row.new ≡ (if lawful then found.now else row.old) }

@@ -1,4 +1,4 @@
-// The five rules for the speed codes of a line, the examiner's verdict on a row, and the highest row.
+// The five rules for the speed codes of a line: the highest codes of an interval by each of them.
 
 #![tactic(auto)]
 

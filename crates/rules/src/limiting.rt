@@ -20,7 +20,9 @@ use books::BrakingBook;
 use codes::{Class, Code, Speed};
 use ground::Entry;
 
-// The highest code from which a train stops before the mark by service braking.
+// The highest code from which a train stops before the mark by service braking. This and the next are two, since they differ in the
+// position, in the distances asked for and in what is promised. Gradients, place and book stay apart: in one struct each clause would
+// name three fields of it.
 fn service_limit<B: BrakingBook>(gradients: &[Entry<Class>], place: &Place, book: &B) -> Code
     ensures { UpTo (Served (B.BrakingBook.services book.now) gradients.now place.now) result }
 {
@@ -77,7 +79,7 @@ fn is_above(speed: Speed, limit: Code) -> bool
     limit < Code::Go(speed)
 }
 
-// A speed passes if it is above none of the four.
+// A speed passes if it is above none of the four: for callers that search among speeds of their own.
 impl SpeedTest for Limits {
     ghost passed = { within };
 

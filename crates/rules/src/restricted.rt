@@ -78,7 +78,8 @@ fn ahead_code<B: BrakingBook>(
     )
 }
 
-// The highest code by all restrictions that touch the interval.
+// The highest code by all restrictions that touch the interval. This and the next are a chain each: they differ in what is asked of a
+// restriction.
 pub fn touching_limit(restrictions: &[Entry<Speed>], place: &Place) -> Code
     ensures { result ≡ lowest (map (touching_code place.now) restrictions.now) }
 {

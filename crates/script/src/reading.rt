@@ -19,9 +19,9 @@ fn examine(words: &mut Words<'_>, row: &mut Vec<u8>) -> Result<Order, Unread>
 }
 
 // The order of a kind that the words behind its own give.
-fn ordered(kind: Kind, words: &mut Words<'_>, row: &mut Vec<u8>) -> Result<Order, Unread>
+fn ordered(kind: Kind, mut words: Words<'_>, row: &mut Vec<u8>) -> Result<Order, Unread>
     requires { row.old.items ≡ [] }
-    ensures { Says (ordered kind (words_in words.old.rest.now)) result row.new.items }
+    ensures { Says (ordered kind (words_in words.entry.rest.now)) result row.new.items }
 {
     let order = match kind {
         Kind::Start => words.one().map(|start| Order::Start { start }),
@@ -48,7 +48,7 @@ fn ordered(kind: Kind, words: &mut Words<'_>, row: &mut Vec<u8>) -> Result<Order
                 .two()
                 .map(|(mark, approach)| Order::WorkOut { mark, approach })
         }
-        Kind::Examine => return examine(words, row),
+        Kind::Examine => return examine(&mut words, row),
     };
     order.ok_or(Unread::Unclear)
 }
@@ -65,5 +65,5 @@ pub fn read_order(line: &[u8], row: &mut Vec<u8>) -> Result<Option<Order>, Unrea
         return Ok(None);
     };
     let kind = Kind::of(word).ok_or(Unread::Unclear)?;
-    ordered(kind, &mut words, row).map(Some)
+    ordered(kind, words, row).map(Some)
 }

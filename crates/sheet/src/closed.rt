@@ -7,7 +7,7 @@ ghost use Rattle.sheet.specs.Promises.{tables_of, Works, Submitted};
 
 use super::base::Base;
 use super::judging::{copy_row, judge};
-use super::lending::is_row_short;
+use super::lending::{ROW_TABLE_SIZE, is_row_short};
 use super::lent::LentTables;
 use super::open::OpenSheet;
 use super::passed::PassedSheet;
@@ -45,7 +45,7 @@ impl ClosedSheet {
         ensures { Works (lent_short (closed_heading self.now) (tables_of lent.now [])) (drawn (closed_heading self.now) (tables_of lent.now [])) mark approach (B.BrakingBook.emergencies book.now) (B.BrakingBook.services book.now) row.old result row.new }
     {
         let line = self.base.line(lent)?;
-        let mut scratch = [0u8; 64];
+        let mut scratch = [0u8; ROW_TABLE_SIZE];
         match work_out_in(&line, mark, approach, book, row, &mut scratch) {
             Ok(told) => Ok(told),
             Err(Failure::Refused(why)) => Err(why),

@@ -10,7 +10,7 @@ ghost use Rattle.sheet.specs.Reads.{Read};
 use codes::Refusal;
 
 // How many bytes a row table has at least: one for each interval that a sheet can have.
-const ROW_TABLE_SIZE: usize = 64;
+pub(super) const ROW_TABLE_SIZE: usize = 64;
 
 // The records of a table that are in use. Refused by 10 where the table is lent under its count.
 pub(super) fn in_use<T>(table: &[T], count: usize) -> Result<&[T], Refusal>

@@ -42,6 +42,8 @@ impl OpenSheet {
         })
     }
 
+    // The four calls that enter and the two that strike differ in the table and in what is asked for it.
+
     // Enters an interval behind those in use. Refused by 10 where the table is lent under its count, by 1 where it or the limit
     // of 64 is used up, by 2 where the length is not 1 to 5,000 m, and by 3 where an interval in use has the number; a refusal
     // leaves the sheet and the table as they were.

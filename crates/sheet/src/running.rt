@@ -76,7 +76,8 @@ impl<'b, B: BrakingBook, T: Train> RunningSheet<'b, B, T> {
         );
     }
 
-    // Moves the train one metre on, unless it stands, and tells where it then is.
+    // Moves the train one metre on, unless it stands, and tells where it then is. The two cases return apart, so that each is proved by
+    // itself.
     fn go_on(&mut self, intervals: &[Interval], way: Way<'_>) -> Report
         ensures { GoesOn (B.BrakingBook.emergencies (book_of (passed_of self.old))) T.Train.numbers (stands (journey_of T.Train.numbers self.old)) self.old intervals.now way.entry result self.new }
     {

@@ -27,6 +27,8 @@ fn unplussed(word: &[u8]) -> Option<&str>
     str::from_utf8(word).ok()
 }
 
+// The four kinds of numbers differ in the type and its limit: a trait is implemented type by type.
+
 // Digits, leading zeros or not, up to 255.
 impl Number for u8 {
     ghost reads = { upto 255 };

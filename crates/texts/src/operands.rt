@@ -24,16 +24,16 @@ impl<'a> Words<'a> {
     }
 
     // The number of the one word that is left; none where it writes none, or where none or more than one is left.
-    pub fn one<A: Number>(&mut self) -> Option<A>
-        ensures { result ≡ one A.Number.reads (words_in self.old.rest.now) }
+    pub fn one<A: Number>(mut self) -> Option<A>
+        ensures { result ≡ one A.Number.reads (words_in self.entry.rest.now) }
     {
         let last = self.number()?;
         self.is_ended().then_some(last)
     }
 
     // The numbers of the two words that are left; none where one of them writes none, or where fewer or more are left.
-    pub fn two<A: Number, B: Number>(&mut self) -> Option<(A, B)>
-        ensures { result ≡ two A.Number.reads B.Number.reads (words_in self.old.rest.now) }
+    pub fn two<A: Number, B: Number>(mut self) -> Option<(A, B)>
+        ensures { result ≡ two A.Number.reads B.Number.reads (words_in self.entry.rest.now) }
     {
         let first = self.number()?;
         let last = self.one()?;
@@ -41,8 +41,8 @@ impl<'a> Words<'a> {
     }
 
     // The numbers of the three words that are left; none where one of them writes none, or where fewer or more are left.
-    pub fn three<A: Number, B: Number, C: Number>(&mut self) -> Option<(A, B, C)>
-        ensures { result ≡ three A.Number.reads B.Number.reads C.Number.reads (words_in self.old.rest.now) }
+    pub fn three<A: Number, B: Number, C: Number>(mut self) -> Option<(A, B, C)>
+        ensures { result ≡ three A.Number.reads B.Number.reads C.Number.reads (words_in self.entry.rest.now) }
     {
         let first = self.number()?;
         let (second, last) = self.two()?;
