@@ -48,7 +48,7 @@ fn tell_steps<B: BrakingBook, T: Train>(
     Ok(())
 }
 
-// Sets the train off, drives until it stands, and leaves the sheet.
+// Sets the train off, drives until it stands, and leaves the sheet. The tables go one by one, as the sheet's calls take them.
 pub fn drive<B: BrakingBook, T: Train + Drop>(
     rt: &HostRuntime,
     passed: PassedSheet<'_, B>,

@@ -9,7 +9,8 @@ use super::targets::Target;
 use codes::{Code, Rule};
 use rules::{Limits, Line, highest_code};
 
-// How far a pass has come. It stands at an interval; all behind it were passed.
+// How far a pass has come. It stands at an interval; all behind it were passed. That it is a stage of its survey stands in the clauses: a
+// pass that lent the survey would need in each loop that the two surveys are one.
 #[derive(Clone, Copy, Debug, PartialEq, Eq)]
 pub struct Pass {
     // the place of the interval, 0 for the approach, and where it begins and ends
