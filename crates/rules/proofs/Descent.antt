@@ -1,7 +1,8 @@
 -- What a search over the nine speeds, from the highest down, shows. Assumes nothing.
-use Rattle.std.proofs.Common.{◌≡◌, ℕ, ◌<◌, Bool, true, false, cond, ◌⊎◌, reverse, Some, None, Option, refl, sym, ap, ◌∙◌, subst, ⊎_elim, arith}
+use Rattle.std.proofs.Common.{◌≡◌, ℕ, ◌<◌, Bool, true, false, cond, ◌⊎◌, reverse, List, [], ◌∷◌, ◌++◌, Some, Option, refl, sym, ap, ◌∙◌, subst, ⊎_elim, arith}
 use Rattle.std.specs.List.{find}
-use Rattle.std.specs.Option.{option_map_or, MatchOption}
+use Rattle.std.specs.Option.{option_map_or}
+use Rattle.std.proofs.lemmas.List.{reverse-append}
 use Rattle.codes.specs.declared.speeds.Speed.{Speed}
 use Rattle.codes.specs.declared.speeds.Speed.TheVariants.{V30, V40, V50, V60, V70, V80, V90, V100, V120}
 use Rattle.codes.specs.declared.speeds.Code.{Code}
@@ -39,10 +40,23 @@ module _ (test : Speed → Bool) where
       (λ h. next V30 0 (λ v l. grind arith) _ h
       (λ i v. i v (grind arith))))))))))
 
-  pub highest_from_found : (found : Option Speed) (top : Code) → found ≡ find test (reverse speeds) → MatchOption found (top ≡ Stop) (λ v. top ≡ Go v) → top ≡ highest test
+  -- the first to pass of some speeds from the last back, or stop
+  abbrev pub found_in : List Speed → Code
+  found_in xs = option_map_or Go (find test (reverse xs)) Stop
+
+  pub found_in_all : found_in speeds ≡ highest test
   unfolding highest
-  highest_from_found None top e is = is ∙ ap (λ o. option_map_or Go o Stop) e
-  highest_from_found (Some v) top e is = is ∙ ap (λ o. option_map_or Go o Stop) e
+  found_in_all = refl
+
+  pub found_last : (xs lower : List Speed) (v : Speed) → xs ≡ lower ++ v ∷ [] → test v ≡ true → found_in xs ≡ Go v
+  found_last xs lower v e passes =
+      ap found_in e ∙ ap (λ ys. option_map_or Go (find test ys) Stop) (reverse-append lower (v ∷ []))
+      ∙ ap (λ b. option_map_or Go (cond b (Some v) (find test (reverse lower))) Stop) passes
+
+  pub found_lower : (xs lower : List Speed) (v : Speed) → xs ≡ lower ++ v ∷ [] → test v ≡ false → found_in lower ≡ found_in xs
+  found_lower xs lower v e fails =
+      sym (ap found_in e ∙ ap (λ ys. option_map_or Go (find test ys) Stop) (reverse-append lower (v ∷ []))
+      ∙ ap (λ b. option_map_or Go (cond b (Some v) (find test (reverse lower))) Stop) fails)
 
   pub highest_top : Top test (highest test)
   unfolding highest

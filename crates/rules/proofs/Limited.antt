@@ -1,10 +1,9 @@
 -- The limits of an interval: from metres to a track, and the codes within all four. Assumes nothing.
-use Rattle.std.proofs.Common.{◌≡◌, ℕ, not, List, sym, subst, arith}
+use Rattle.std.proofs.Common.{◌≡◌, ℕ, true, ◌↔◌, List, sym, subst, arith}
 use Rattle.std.proofs.lemmas.Bool.Decides.{nat_tests}
 use Rattle.codes.specs.declared.speeds.Speed.{Speed}
 use Rattle.codes.specs.declared.speeds.Code.{Code}
 use Rattle.codes.specs.declared.speeds.Code.TheVariants.{Go}
-use Rattle.codes.specs.Speeds.{lower}
 use Rattle.codes.specs.declared.gradients.Class.{Class}
 use Rattle.ground.specs.declared.entries.Entry.{Entry}
 use Rattle.laws.specs.Books.{Emergencies, Services}
@@ -12,7 +11,8 @@ use Rattle.rules.specs.declared.places.Place.{Place}
 use Rattle.rules.specs.declared.places.Limits.{Limits}
 use Rattle.rules.specs.Tracks.{Track, Mark, begin_of, end_of}
 use Rattle.rules.specs.Rules.{Fits}
-use Rattle.rules.specs.Searching.{UpTo}
+use Rattle.rules.specs.Searching.{Top, UpTo, Closed}
+use Rattle.rules.proofs.UpToTop.{up_to_top}
 use Rattle.rules.specs.Limits.{Placed, At, Caps, Within, within}
 
 -- ---- from metres to a track
@@ -39,9 +39,18 @@ module _ (E : Emergencies) (D : Services) (limits : Limits) (track : Track) (mar
 
 -- ---- all four limits
 
--- a speed is not above the highest code within all four limits if it is above none of them
-pub within_top : (limits : Limits) (top : Code) (v : Speed) → UpTo (Within limits) top → not (lower top (Go v)) ≡ within limits v
-within_top limits top v up = let here = up (Go v) in grind (arith, nat_tests)
+tested : (limits : Limits) (v : Speed) → Within limits (Go v) ↔ (within limits v ≡ true)
+tested limits v = (
+  λ under. grind (arith, nat_tests),
+  λ passes. (grind (arith, nat_tests), grind (arith, nat_tests), grind (arith, nat_tests), grind (arith, nat_tests)),
+)
+
+within_closed : (limits : Limits) → Closed (within limits)
+within_closed limits low high l passes =
+    let under = (tested limits high).1 passes in (tested limits low).0 (omega arith, omega arith, omega arith, omega arith)
+
+pub within_up_to : (limits : Limits) (top : Code) → Top (within limits) top → UpTo (Within limits) top
+within_up_to limits = up_to_top (Within limits) (within limits) (omega arith, omega arith, omega arith, omega arith) (tested limits) (within_closed limits)
 
 -- the highest code within all four limits is the highest that obeys the rules for a code by itself
 pub fits_up_to : (track : Track) (mark : Mark) (E : Emergencies) (D : Services) (j : ℕ) (limits : Limits) (top : Code) → Caps track mark E D j limits → UpTo (Within limits) top → UpTo (Fits track mark E D j) top

@@ -14,8 +14,8 @@ ghost use Rattle.rules.specs.Limits.{Touched, Braked, Served, Stopped, At, Caps,
 use super::braked::{highest_down, highest_emergency_stop, highest_service_stop};
 use super::lines::Line;
 use super::places::{Limits, Place};
-use super::restricted::{ahead_limit, class_from, lower_of, touching_limit};
-use super::searching::SpeedTest;
+use super::restricted::{ahead_limit, class_from, touching_limit};
+use super::searching::{SpeedTest, highest_passing};
 use books::BrakingBook;
 use codes::{Class, Code, Speed};
 use ground::Entry;
@@ -63,15 +63,6 @@ pub fn limits_at<B: BrakingBook>(line: &Line<'_>, place: &Place, book: &B) -> Li
     placed_limits(line, place, book)
 }
 
-// The highest code that obeys the rules 1 to 4.
-pub fn highest_code(limits: &Limits) -> Code
-    ensures { UpTo (Within limits.now) result }
-{
-    let by_restrictions = lower_of(limits.touching, limits.ahead);
-    let by_mark = lower_of(limits.service, limits.stopping);
-    lower_of(by_restrictions, by_mark)
-}
-
 // Whether a speed is above a limit.
 fn is_above(speed: Speed, limit: Code) -> bool
     ensures { result ≡ lower limit (Go speed) }
@@ -79,14 +70,24 @@ fn is_above(speed: Speed, limit: Code) -> bool
     limit < Code::Go(speed)
 }
 
-// A speed passes if it is above none of the four: for callers that search among speeds of their own.
+// A speed passes if it is above none of the four.
 impl SpeedTest for Limits {
     ghost passed = { within };
 
-    #[tactic(auto, using(crate::proofs::Limited::within_top))]
     fn passes(&self, speed: Speed) -> bool {
-        !is_above(speed, highest_code(self))
+        if is_above(speed, self.touching) || is_above(speed, self.ahead) {
+            return false;
+        }
+        !is_above(speed, self.service) && !is_above(speed, self.stopping)
     }
+}
+
+// The highest code that obeys the rules 1 to 4.
+#[tactic(auto, using(crate::proofs::Limited::within_up_to))]
+pub fn highest_code(limits: &Limits) -> Code
+    ensures { UpTo (Within limits.now) result }
+{
+    highest_passing(limits)
 }
 
 // The highest code by rule 5 of an interval that ends at `end`, before one that ends at `next_end` and has the code `next`.

@@ -1,7 +1,5 @@
 // The search for the highest code, from the highest speed down.
-ghost use Rattle.std.specs.Prelude.{◌≡◌, Bool, reverse};
-ghost use Rattle.std.specs.List.{find};
-ghost use Rattle.codes.specs.Speeds.{speeds};
+ghost use Rattle.std.specs.Prelude.{◌≡◌, Bool};
 ghost use Rattle.codes.specs.declared.speeds.Speed.{Speed};
 ghost use Rattle.rules.specs.Searching.{highest, Top};
 
@@ -16,21 +14,29 @@ pub trait SpeedTest {
         ensures { result ≡ passed self.now speed };
 }
 
-// The highest of the nine speeds that passes, if one does.
-fn highest_speed<T: SpeedTest>(test: &T) -> Option<Speed>
-    ensures { result ≡ find (T.SpeedTest.passed test.now) (reverse speeds) }
+// The nine speeds are tried from the highest down, and the first that passes breaks the search; stop where none does. A loop and not a
+// chain: that the code comes by a break is a rule of the project.
+#[tactic(auto, using(crate::proofs::Descent::found_in_all))]
+fn tried_downward<T: SpeedTest>(test: &T) -> Code
+    ensures { result ≡ highest (T.SpeedTest.passed test.now) }
 {
-    Speed::ALL
-        .iter()
-        .rev()
-        .copied()
-        .find(|speed| test.passes(*speed))
+    let mut rest = Speed::ALL.as_slice();
+    loop {
+        let Some((speed, lower)) = rest.split_last() else {
+            break Code::Stop;
+        };
+        if test.passes(*speed) {
+            break Code::Go(*speed);
+        }
+        rest = lower;
+    }
 }
 
 // The highest speed that passes, or stop where none does.
+#[tactic(auto, using(crate::proofs::Descent::top_highest))]
 pub fn highest_passing<T: SpeedTest>(test: &T) -> Code
     ensures value { result ≡ highest (T.SpeedTest.passed test.now) }
     ensures top { Top (T.SpeedTest.passed test.now) result }
 {
-    highest_speed(test).map_or(Code::Stop, Code::Go)
+    tried_downward(test)
 }
