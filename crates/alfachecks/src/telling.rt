@@ -59,7 +59,7 @@ fn tell_work_case(rt: &HostRuntime, case: WorkCase) -> anyhow::Result<()> {
         drawn_to,
         slow_to,
     } = sheet;
-    // no restriction is told as 0
+    // no restriction is told as 0: what the program writes stays
     let slow_to = slow_to.unwrap_or(0);
     print!(rt;
         "danger {danger}, drawn to {drawn_to}, slow to {slow_to}, mark {mark}, approach {approach}, {size} bytes:"

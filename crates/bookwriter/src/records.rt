@@ -15,7 +15,8 @@ pub(super) fn emergency_record(class: Class, from: Speed, to: Code, metres: u16)
     [7, 0, 1, 0, class.number(), from.kmh(), to.byte(), low, high]
 }
 
-// A kind 2 record: the service distance in metres by class and from, the low byte of each number first.
+// A kind 2 record: the service distance in metres by class and from, the low byte of each number first. Apart from
+// kind 1, since the two differ in their fields.
 pub(super) fn service_record(class: Class, from: Speed, metres: u16) -> [u8; 8]
     ensures { result ≡ spelt (states (service class from) metres) }
 {

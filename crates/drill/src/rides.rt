@@ -21,7 +21,8 @@ pub fn passed_sheet<'b, B: BrakingBook>(
         .map_err(|refused| refused.why)
 }
 
-// Steps until the train stands, and tells where its pace changes. Fails where a step is refused.
+// Steps until the train stands, and tells where its pace changes. Fails where a step is refused. The tables go one by one, as the
+// sheet's calls take them.
 fn tell_steps<B: BrakingBook, T: Train>(
     rt: &HostRuntime,
     running: &mut RunningSheet<'_, B, T>,

@@ -65,6 +65,7 @@ pub fn is_standing<T: Train>(train: &T, head: Head) -> bool
 }
 
 // Sets a train off at the start: it hears the first code, with the class of the 170 m behind. Answers where it is.
+// Here and in what is called, train, book and gradients come one by one, as their owner has them.
 pub fn depart<B: BrakingBook, T: Train>(
     train: &mut T,
     book: &B,

@@ -26,7 +26,8 @@ pub fn code_in(row: &[u8], place: usize) -> Code
     row.get(place).copied().map_or(Code::Stop, code_of)
 }
 
-// How long the interval at a place is, in metres; 0 behind the last.
+// How long the interval at a place is, in metres; 0 behind the last, since a row may reach beyond
+// the intervals lent.
 fn length_at(intervals: &[Interval], place: usize) -> u32
     ensures { result ≡ slice_index (lengths_of intervals.now) place }
 {

@@ -33,7 +33,8 @@ pub trait Draft: Copy {
 }
 
 // Writes the record of a draft behind those in use, and answers how many then are. Refused by 10 where the table is shorter than its
-// count, by 1 where it or the limit is used up, and then as the draft is; a refusal leaves the table as it was.
+// count, by 1 where it or the limit is used up, and then as the draft is; a refusal leaves the table as it was. The
+// count stands beside the slice, since the tables are the callers' own; each kind of record has a call of its own, with its arguments.
 pub(super) fn enter<D: Draft>(
     table: &mut [D::Record],
     count: usize,

@@ -27,6 +27,7 @@ fn tell_written(rt: &HostRuntime, file: &[u8]) -> anyhow::Result<()> {
     println!(rt;
         "buffers of 5246 and 5248 bytes are refused: {is_short_refused} {is_long_refused}"
     )?;
+    // of a refused file no figure is equal
     let back = written::figures_back(file).unwrap_or(0);
     println!(rt; "written and read back: {back} figures equal")?;
     Ok(())

@@ -2,6 +2,8 @@
 //
 // The value changes only where an entry begins or ends, so it is asked for at the stretch's begin and at each change
 // within it: how long that takes depends on the number of entries, and not on that of the metres.
+//
+// Entries, from and to go from function to function as they are: a struct of them would be taken apart again at each change.
 ghost use Rattle.std.specs.Prelude.{◌≡◌, fold};
 ghost use Rattle.ground.specs.Grading.{Lawful};
 ghost use Rattle.ground.specs.Ground.{metre_value, stretch_value};

@@ -51,7 +51,8 @@ fn blank_entry<V>(value: V) -> Entry<V> {
 }
 
 impl Sheet {
-    // A blank line with its start, 1,000 to 100,000; any other start is refused by 6.
+    // A blank line with its start, 1,000 to 100,000; any other start is refused by 6. As a sheet of `sheet`, which
+    // keeps no tables.
     pub fn begun(start: u32) -> Result<Sheet, Refusal> {
         if !(1_000..=100_000).contains(&start) {
             return Err(Refusal::Stretch);

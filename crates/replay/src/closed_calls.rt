@@ -48,6 +48,7 @@ pub(super) fn on_closed<'b, B: BrakingBook, T: Train + Drop>(
             approach,
             row,
         } => {
+            // cut here, as on_open cuts its tables
             let room = lending.row.min(row_table.len());
             match sheet.submit(
                 &lent,

@@ -31,7 +31,8 @@ pub(super) fn perform<'b, B: BrakingBook, T: Train + Drop>(
     ensures made { Performed (B.BrakingBook.emergencies book.now) (B.BrakingBook.services book.now) (sheet_of T.Train.numbers sheet.entry (five_tables intervals.old gradients.old restrictions.old marks.old row_table.old)) (call_of T.Train.numbers call) (outcome_of T.Train.numbers result.1) (sheet_of T.Train.numbers result.0 (five_tables intervals.new gradients.new restrictions.new marks.new row_table.new)) }
     ensures by { By book.now result.0 }
 {
-    // Each arm returns, so that each is proved by itself. An open sheet writes to the tables; to the others they are lent to be read.
+    // Each arm returns, so that each is proved by itself. An open sheet writes to the tables; to the others they are lent to be read,
+    // anew in each arm.
     match sheet {
         AnySheet::Open(sheet) => {
             return on_open(sheet, call, intervals, gradients, restrictions, marks);

@@ -94,6 +94,13 @@ fn is_worked_out<B: BrakingBook>(
     })
 }
 
+// Holds the library's limits of each interval, and its worst class from there to the mark, against the second implementation.
+fn compare_intervals<B: BrakingBook>(verdicts: &Verdicts<'_, B>, tally: &mut Tally) {
+    for j in 0..=verdicts.held {
+        tally.count_answer(verdicts.scene.has_limits(j) && verdicts.scene.has_class(j));
+    }
+}
+
 // Tries every row of a sheet at an approach code, and then the highest one, which is lawful itself if there is any.
 fn compare_rows<B: BrakingBook>(
     heap: Global,
@@ -135,6 +142,7 @@ pub fn compare_sheets<B: BrakingBook>(
         let approach = Speed::ALL[draws.below(9) as usize];
         let sheet = drawn_sheet(heap, &mut draws, scale)?;
         let verdicts = Verdicts::new(heap, sheet, book)?;
+        compare_intervals(&verdicts, &mut tally);
         compare_rows(heap, &verdicts, approach, &mut tally)?;
     }
     Ok(tally)

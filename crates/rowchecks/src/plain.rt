@@ -3,8 +3,9 @@ use super::metres::{class_over, painted};
 use anyhow::Context;
 use books::BrakingBook;
 use codes::{Class, Code, Rule, Speed};
+use ground::worst_over;
 use rows::StopLetter;
-use rules::StopMark;
+use rules::{Place, StopMark, limits_at};
 use std::alloc::Global;
 use trials::Sheet;
 
@@ -113,19 +114,56 @@ impl<'a, B: BrakingBook> Scene<'a, B> {
         self.is_down(j, code, next, self.sheet.end_of(j.saturating_add(1)))
     }
 
+    // Whether a code of interval j obeys one of the rules 1 to 4; rule 5 asks for the next code too.
+    fn obeys(&self, j: usize, code: Code, rule: Rule) -> bool {
+        match rule {
+            Rule::Touching => self.obeys_1(j, code),
+            Rule::Ahead => self.obeys_2(j, code),
+            Rule::Service => self.obeys_3(j, code),
+            Rule::Stopping => self.obeys_4(j, code),
+            Rule::Next => true,
+        }
+    }
+
     // The first of the rules 1 to 4 that a code breaks, if any.
     pub fn first_of_four(&self, j: usize, code: Code) -> Option<Rule> {
-        if !self.obeys_1(j, code) {
-            Some(Rule::Touching)
-        } else if !self.obeys_2(j, code) {
-            Some(Rule::Ahead)
-        } else if !self.obeys_3(j, code) {
-            Some(Rule::Service)
-        } else if !self.obeys_4(j, code) {
-            Some(Rule::Stopping)
-        } else {
-            None
-        }
+        Rule::ALL
+            .iter()
+            .copied()
+            .find(|rule| !self.obeys(j, code, *rule))
+    }
+
+    // The highest code of interval j that obeys one of the rules 1 to 4.
+    fn highest_by(&self, j: usize, rule: Rule) -> Code {
+        Code::ALL
+            .iter()
+            .copied()
+            .rev()
+            .find(|code| self.obeys(j, *code, rule))
+            .unwrap_or(Code::Stop)
+    }
+
+    // Whether the library's limits of interval j are the highest codes by the rules 1 to 4, each by itself.
+    pub fn has_limits(&self, j: usize) -> bool {
+        let place = Place {
+            begin: self.begin_of(j) as u64,
+            end: self.sheet.end_of(j) as u64,
+            position: self.mark.position as u64,
+            danger: self.mark.danger as u64,
+        };
+        let limits = limits_at(&self.sheet.line(), &place, self.book);
+        limits.touching == self.highest_by(j, Rule::Touching)
+            && limits.ahead == self.highest_by(j, Rule::Ahead)
+            && limits.service == self.highest_by(j, Rule::Service)
+            && limits.stopping == self.highest_by(j, Rule::Stopping)
+    }
+
+    // Whether the library's worst class of the stretch from interval j to the mark is that of its metres.
+    pub fn has_class(&self, j: usize) -> bool {
+        let from = self.begin_of(j);
+        let to = self.mark.position;
+        worst_over(self.sheet.gradients.as_slice(), from as u64, to as u64)
+            == class_over(self.classes.as_slice(), from, to)
     }
 
     // Whether stop is the highest code of interval j that obeys the rules 1 to 4.

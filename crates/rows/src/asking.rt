@@ -8,7 +8,8 @@ use codes::{Refusal, Speed};
 use rules::Line;
 
 // Where the mark stands before which a row is asked for, and the speed of the approach code. Refused by 8 (no such mark, or it stands
-// in no interval), 4 (the approach code is no speed) and 10 (the row has not a byte for each interval up to the mark's).
+// in no interval), 4 (the approach code is no speed) and 10 (the row has not a byte for each interval up to the mark's). What is
+// asked for comes one by one, as a host hands it in.
 pub(super) fn asked_for(
     line: &Line<'_>,
     mark: u16,

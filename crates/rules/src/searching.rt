@@ -5,7 +5,7 @@ ghost use Rattle.rules.specs.Searching.{highest, Top};
 
 use codes::{Code, Speed};
 
-// A test that each of the nine speeds passes or fails.
+// A test that each of the nine speeds passes or fails: a trait, since a public call takes no closure.
 pub trait SpeedTest {
     // Whether a speed passes.
     ghost passed: { Self → Speed → Bool };

@@ -6,7 +6,8 @@ use super::lent::LentTables;
 use codes::Refusal;
 use rules::Line;
 
-// A sheet's start in metres, and how many records of each of the caller's tables are in use.
+// A sheet's start in metres, and how many records of each of the caller's tables are in use: the tables are the caller's own, so the
+// counts stand apart from them.
 #[derive(Clone, Copy)]
 pub struct Base {
     pub start: u32,

@@ -124,7 +124,7 @@ impl Drawing<'_> {
         Class::ALL[self.draws.below(steepest) as usize]
     }
 
-    // One of the nine speeds.
+    // One of the nine speeds. As one of the classes: a line each.
     fn drawn_speed(&mut self) -> Speed {
         Speed::ALL[self.draws.below(9) as usize]
     }
