@@ -76,7 +76,7 @@ impl Class {
     }
 
     // The class of a number, or none where it is not 1 to 11.
-    fn of_number(number: u8) -> Option<Class>
+    pub fn from_number(number: u8) -> Option<Class>
         ensures { result ≡ class_of number }
     {
         Class::ALL
@@ -100,6 +100,6 @@ impl TryFrom<u8> for Class {
     ghost try_from_gives = { Numbered };
 
     fn try_from(number: u8) -> Result<Class, Refusal> {
-        Class::of_number(number).ok_or(Refusal::Record(RecordFault::Entry))
+        Class::from_number(number).ok_or(Refusal::Record(RecordFault::Entry))
     }
 }

@@ -39,9 +39,9 @@ impl Speed {
         Speed::V120,
     ];
 
-    // The speed of so many km/h, or none where it is not one of the nine. As `Class::of_number`: one for both would take the list and
+    // The speed of so many km/h, or none where it is not one of the nine. As `Class::from_number`: one for both would take the list and
     // the number as parameters, and be no shorter.
-    fn of_kmh(kmh: u8) -> Option<Speed>
+    pub fn from_kmh(kmh: u8) -> Option<Speed>
         ensures { result ≡ speed_of kmh }
     {
         Speed::ALL.iter().copied().find(|speed| speed.kmh() == kmh)
@@ -71,7 +71,7 @@ impl Code {
     ];
 
     // The code of a byte: 0 is stop, a speed's km/h that speed; none where the byte is no code.
-    fn of_byte(byte: u8) -> Option<Code>
+    pub fn from_byte(byte: u8) -> Option<Code>
         ensures { result ≡ code_of byte }
     {
         Code::ALL.iter().copied().find(|code| code.byte() == byte)
@@ -103,7 +103,7 @@ impl TryFrom<u8> for Speed {
     ghost try_from_gives = { Drives };
 
     fn try_from(kmh: u8) -> Result<Speed, Refusal> {
-        Speed::of_kmh(kmh).ok_or(Refusal::Speed)
+        Speed::from_kmh(kmh).ok_or(Refusal::Speed)
     }
 }
 
@@ -114,6 +114,6 @@ impl TryFrom<u8> for Code {
     ghost try_from_gives = { Reads };
 
     fn try_from(byte: u8) -> Result<Code, Refusal> {
-        Code::of_byte(byte).ok_or(Refusal::Byte)
+        Code::from_byte(byte).ok_or(Refusal::Byte)
     }
 }
