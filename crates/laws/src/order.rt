@@ -32,11 +32,12 @@ fn next_class(class: Class) -> Option<Class>
     Class::ALL.iter().copied().find(|steeper| class < *steeper)
 }
 
-// Whether the emergency figure is not below that of the next higher `to`, where that has one.
-fn next_to_kept<F: Figures>(figures: &F, class: Class, from: Speed, to: Code) -> bool
+// Whether the emergency figure, which is so many metres, is not below that of the next higher `to`, where that has one. The metres are
+// handed in, so that each figure is asked for once.
+fn next_to_kept<F: Figures>(figures: &F, class: Class, from: Speed, to: Code, metres: u16) -> bool
+    requires { metres ≡ F.Figures.emergencies figures.now class from to }
     ensures { result ≡ next_to_kept (F.Figures.emergencies figures.now) class from to }
 {
-    let metres = figures.emergency(class, from, to);
     next_code(to).is_none_or(|higher| {
         !(higher < Code::Go(from)) || figures.emergency(class, from, higher) <= metres
     })
@@ -47,7 +48,7 @@ fn emergency_in_order<F: Figures>(figures: &F, class: Class, from: Speed, to: Co
     ensures { result ≡ emergency_in_order (F.Figures.emergencies figures.now) class from to }
 {
     let metres = figures.emergency(class, from, to);
-    next_to_kept(figures, class, from, to)
+    next_to_kept(figures, class, from, to, metres)
         && next_speed(from).is_none_or(|faster| metres <= figures.emergency(class, faster, to))
         && next_class(class).is_none_or(|steeper| metres <= figures.emergency(steeper, from, to))
 }
