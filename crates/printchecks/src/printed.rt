@@ -81,9 +81,9 @@ impl Findings {
             .saturating_sub(self.differences.len())
     }
 
-    // Notes a printed figure beside the book's.
+    // Notes a printed figure beside the book's; where the book has none, 0 stands for it, as it does in a difference.
     fn note(&mut self, seen: Difference) -> anyhow::Result<()> {
-        if seen.booked == Some(seen.printed) {
+        if seen.booked.unwrap_or(0) == seen.printed {
             self.agree = self.agree.saturating_add(1);
         } else {
             self.differences.push(seen)?;
