@@ -1,9 +1,10 @@
 // Holds the library's answers on sheets drawn at random against the verdicts on all of their rows.
+use super::known::{CODES, byte_of, kmh_of, number_of};
 use super::tallies::Tally;
 use super::verdicts::Verdicts;
 use books::BrakingBook;
 use codes::{Code, Refusal, Speed};
-use rows::{Failure, examine, work_out};
+use rows::{Break, Failure, examine, work_out};
 use rules::Line;
 use std::alloc::Global;
 use trials::{Draws, drawn_sheet};
@@ -30,7 +31,7 @@ impl Trial {
     fn take_row(&mut self, number: usize) {
         let mut rest = number;
         for code in &mut self.row {
-            *code = Code::ALL[rest % 10];
+            *code = CODES[rest % 10];
             rest /= 10;
         }
     }
@@ -40,12 +41,25 @@ impl Trial {
         match &mut self.best {
             Some(best) => {
                 for (highest, code) in best.iter_mut().zip(self.row.iter()) {
-                    *highest = (*highest).max(*code);
+                    if byte_of(*highest) < byte_of(*code) {
+                        *highest = *code;
+                    }
                 }
             }
             None => self.best = Some(self.row.clone()?),
         }
         Ok(())
+    }
+}
+
+// Whether the library's answer to a row tells the break that is due, by its interval and the rule's number; a pass where none is due.
+fn is_told(answer: Result<(), Refusal>, due: Result<(), Break>) -> bool {
+    match (answer, due) {
+        (Ok(()), Ok(())) => true,
+        (Err(Refusal::Unlawful { interval, rule }), Err(broken)) => {
+            interval == broken.interval && rule.number() == number_of(broken.rule)
+        }
+        _ => false,
     }
 }
 
@@ -63,9 +77,15 @@ fn is_same<B: BrakingBook>(
     if due.is_ok() {
         trial.raise()?;
     }
-    let row: Vec<u8> = trial.row.iter().map(|code| code.byte()).collect(heap)?;
-    let answer = examine(line, 1, approach.kmh(), row.as_slice(), verdicts.scene.book);
-    Ok(answer == due.map_err(Refusal::from))
+    let row: Vec<u8> = trial.row.iter().map(|code| byte_of(*code)).collect(heap)?;
+    let answer = examine(
+        line,
+        1,
+        kmh_of(approach),
+        row.as_slice(),
+        verdicts.scene.book,
+    );
+    Ok(is_told(answer, due))
 }
 
 // Whether the library works out the highest row, its letter and the first interval of the stop ground; or, where no row is lawful,
@@ -82,13 +102,16 @@ fn is_worked_out<B: BrakingBook>(
         heap,
         &line,
         1,
-        approach.kmh(),
+        kmh_of(approach),
         verdicts.scene.book,
         &mut row,
     );
     Ok(match (answer, best) {
         (Ok(found), Some(best)) => found == (verdicts.letter, verdicts.first)
-            && row.iter().copied().eq(best.iter().map(|code| code.byte())),
+            && row
+                .iter()
+                .copied()
+                .eq(best.iter().map(|code| byte_of(*code))),
         (Err(Failure::Refused(Refusal::NoRow)), None) => row.iter().all(|byte| *byte == BLANK),
         _ => false,
     })

@@ -4,6 +4,7 @@
 #![tactic(auto)]
 
 mod comparing;
+mod known;
 mod metres;
 mod plain;
 mod recipes;

@@ -1,8 +1,9 @@
 // The five rules, each as it is worded. Interval 0 is the approach.
+use super::known::{CODES, FOUR, byte_of};
 use super::metres::{class_over, painted};
 use anyhow::Context;
 use books::BrakingBook;
-use codes::{Class, Code, Rule, Speed};
+use codes::{Class, Code, Rule};
 use ground::worst_over;
 use rows::StopLetter;
 use rules::{Place, StopMark, limits_at};
@@ -62,7 +63,7 @@ impl<'a, B: BrakingBook> Scene<'a, B> {
     // braking.
     fn is_down(&self, j: usize, code: Code, to: Code, position: u32) -> bool {
         match code {
-            Code::Go(speed) if code > to => {
+            Code::Go(speed) if byte_of(code) > byte_of(to) => {
                 let room = position.saturating_sub(self.sheet.end_of(j));
                 self.book
                     .emergency(self.class_towards(j, position), speed, to)
@@ -81,7 +82,7 @@ impl<'a, B: BrakingBook> Scene<'a, B> {
             .iter()
             .filter(|slow| slow.from < self.mark.danger)
             .filter(|slow| slow.from < end && slow.to.saturating_add(TRAIN) > begin)
-            .all(|slow| code <= Code::Go(slow.value))
+            .all(|slow| byte_of(code) <= byte_of(Code::Go(slow.value)))
     }
 
     // Rule 2: slow enough, or able to become so by emergency braking, before a restriction ahead.
@@ -127,15 +128,14 @@ impl<'a, B: BrakingBook> Scene<'a, B> {
 
     // The first of the rules 1 to 4 that a code breaks, if any.
     pub fn first_of_four(&self, j: usize, code: Code) -> Option<Rule> {
-        Rule::ALL
-            .iter()
+        FOUR.iter()
             .copied()
             .find(|rule| !self.obeys(j, code, *rule))
     }
 
     // The highest code of interval j that obeys one of the rules 1 to 4.
     fn highest_by(&self, j: usize, rule: Rule) -> Code {
-        Code::ALL
+        CODES
             .iter()
             .copied()
             .rev()
@@ -168,9 +168,10 @@ impl<'a, B: BrakingBook> Scene<'a, B> {
 
     // Whether stop is the highest code of interval j that obeys the rules 1 to 4.
     fn is_stop_only(&self, j: usize) -> bool {
-        Speed::ALL
+        CODES
             .iter()
-            .all(|speed| self.first_of_four(j, Code::Go(*speed)).is_some())
+            .skip(1)
+            .all(|code| self.first_of_four(j, *code).is_some())
     }
 
     // The first interval of the stop ground: the longest run of such intervals up to that of the mark, from 1 on.

@@ -1,4 +1,5 @@
 // What was compared by one book, and how it came out.
+use super::known::number_of;
 use codes::Rule;
 use rows::StopLetter;
 use std::fmt;
@@ -41,10 +42,9 @@ impl Tally {
             count(&mut self.passes);
             return;
         };
-        if let Some(place) = Rule::ALL.iter().position(|known| *known == rule) {
-            if let Some(number) = self.by_rule.get_mut(place) {
-                count(number);
-            }
+        let place = (number_of(rule) as usize).saturating_sub(1);
+        if let Some(number) = self.by_rule.get_mut(place) {
+            count(number);
         }
     }
 

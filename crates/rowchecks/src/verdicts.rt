@@ -1,4 +1,5 @@
 // What the rules say of each code of a scene, and of rows.
+use super::known::CODES;
 use super::plain::Scene;
 use books::BrakingBook;
 use codes::{Code, Rule, Speed};
@@ -22,9 +23,9 @@ pub struct Verdicts<'a, B> {
 // The first rule that each code breaks in interval j, if any, by code and next code; the stop ground begins with interval `first`.
 fn tried<B: BrakingBook>(scene: &Scene<'_, B>, first: usize, j: usize) -> [[Option<Rule>; 10]; 10] {
     let is_before_ground = j.saturating_add(1) < first;
-    Code::ALL.map(|code| {
+    CODES.map(|code| {
         let four = scene.first_of_four(j, code);
-        Code::ALL.map(|next| {
+        CODES.map(|next| {
             let is_five = four.is_none() && is_before_ground && !scene.obeys_5(j, code, next);
             if is_five { Some(Rule::Next) } else { four }
         })
@@ -33,10 +34,7 @@ fn tried<B: BrakingBook>(scene: &Scene<'_, B>, first: usize, j: usize) -> [[Opti
 
 // The place of a code among the ten.
 fn rank(code: Code) -> usize {
-    Code::ALL
-        .iter()
-        .position(|known| *known == code)
-        .unwrap_or(0)
+    CODES.iter().position(|known| *known == code).unwrap_or(0)
 }
 
 impl<'a, B: BrakingBook> Verdicts<'a, B> {
