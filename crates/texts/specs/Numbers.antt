@@ -3,8 +3,7 @@
 --     numeral w         the number that a word of decimal digits writes; none where the word is empty or has another byte
 --     upto limit w      that number, where it is at most the limit
 --     signed_of w       the number that digits, or a minus and digits, write, where it is -2^31 to 2^31 - 1
---     IsNoNumber w      the word writes no number of either kind
-use Rattle.std.specs.Prelude.{◌≡◌, ℕ, ◌-◌, ◌^◌, cond, List, [], ◌∷◌, ℤ, pos, neg_ℤ, Some, None, Option, ◌==◌, nat_le}
+use Rattle.std.specs.Prelude.{ℕ, ◌-◌, ◌^◌, cond, List, [], ◌∷◌, ℤ, pos, neg_ℤ, Some, None, Option, ◌==◌, nat_le}
 use Rattle.std.specs.Option.{option_map}
 use Rattle.std.specs.Str.{all_ascii_digits}
 use Rattle.std.specs.Str.Parse.{digits_value}
@@ -27,7 +26,3 @@ upto limit w = held limit (numeral w)
 abbrev pub signed_of : List ℕ → Option ℤ
 signed_of [] = None
 signed_of (b ∷ bs) = cond (b == 45) (option_map (λ n. neg_ℤ (pos n)) (upto (2 ^ 31) bs)) (option_map pos (upto (2 ^ 31 - 1) (b ∷ bs)))
-
-pub record IsNoNumber (w : List ℕ) : Type 0 where
-  pub digits : numeral w ≡ None
-  pub signed : signed_of w ≡ None
