@@ -197,3 +197,7 @@ module _ {B T : Type 0} (E : Emergencies) (D : Services) (numbers : T → Number
   pub leaves_running : (s : RunningSheet B T) (q : ClosedSheet) (train : T) → q.base ≡ (passed_of s).base → train ≡ train_of s
       → Performed E D (under_way s) (call lent leave) (left (numbers train)) (on_base q.base tables closed)
   leaves_running s q train e t = record { paces = []; does = record { told = ap (λ (x : T). left (numbers x)) t; none = refl; closes = ap (λ (b : Base). on_base b tables closed) e } }
+
+pub leaves_passed : {B : Type 0} (E : Emergencies) (D : Services) (lent : Lent) (tables : Tables) (s : PassedSheet B) (q : ClosedSheet) → q.base ≡ s.base
+    → Performed E D (on_base s.base tables (passed (pass_of s))) (call lent leave) done (on_base q.base tables closed)
+leaves_passed E D lent tables s q e = record { paces = []; does = record { told = refl; none = refl; closes = ap (λ (b : Base). on_base b tables closed) e } }

@@ -5,8 +5,8 @@ use Rattle.runs.proofs.Determined.{determined}
 use Rattle.replay.proofs.Replays.{sofar_none, sofar_more, replayed}
 use Rattle.replay.proofs.replaying.replay.Goals as goal
 
-pub returns-in_err-blank-clause-determined : goal.returns-in_err-blank-clause-determined
-returns-in_err-blank-clause-determined g c =
+pub returns-in_err-blank_sheet-clause-determined : goal.returns-in_err-blank_sheet-clause-determined
+returns-in_err-blank_sheet-clause-determined g c =
     let book = c.args.book.now in
     determined (g.B.BrakingBook.emergencies book) (g.B.BrakingBook.services book)
 
@@ -43,13 +43,13 @@ pub returns : goal.returns
 returns g c =
     let book = c.args.book.now in
     let inv = c.loop-call.invariant in
-    let blank = c.in_ok-blank.ensures in
+    let blank = c.in_ok-blank_sheet.ensures in
     let none = sym c.in-None.ensures.steps.0 ∙ c.loop-call.call-iterator.rest.ok.0 in
     record {
       replays = replayed (g.B.BrakingBook.emergencies book) (g.B.BrakingBook.services book) (g.B.BrakingBook.distances book) (g.B.BrakingBook.laws book) g.T.Train.numbers c.args.start
           (five_tables c.args.intervals.now c.args.gradients.now c.args.restrictions.now c.args.marks.now c.args.row_table.now)
           (five_tables c.loop-call.intervals c.loop-call.gradients c.loop-call.restrictions c.loop-call.marks c.loop-call.row_table)
-          c.in_ok-blank.field-0 (vec_items c.args.calls) c.loop-call.yielded (into_iter_items c.loop-call.call-iterator) (record { answers = c.loop-call.answers; sheet = c.loop-call.sheet })
+          c.in_ok-blank_sheet.field-0 (vec_items c.args.calls) c.loop-call.yielded (into_iter_items c.loop-call.call-iterator) (record { answers = c.loop-call.answers; sheet = c.loop-call.sheet })
           blank.0 blank.1 (inv.2 ∙ c.into_iter-call-iterator.ensures.into_iter_gives.0) (sym none) inv.5;
       determined = determined (g.B.BrakingBook.emergencies book) (g.B.BrakingBook.services book);
     }
