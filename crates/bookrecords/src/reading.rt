@@ -142,7 +142,8 @@ impl<'a> Reader<'a> {
     pub fn place(&self) -> usize
         ensures { result ≡ self.now.place }
     {
-        self.place
+        let Reader { place, .. } = self;
+        *place
     }
 
     // The next record, or none at the end of the file. A record is refused by 15 where its bytes are torn, by 16 for its kind and
