@@ -24,7 +24,7 @@ pub record WorkedOut (sheet : Variant) (approach : Speed) (row : List Code) (let
   pub ground : FirstOfGround (track_for sheet) (mark_for sheet) printed_emergency printed_service place
   pub tells : letter ≡ letter_of (class_over (track_for sheet) (begin_of (track_for sheet) place - train_length) (mark_for sheet).position)
 
-abbrev BrokenBy : Variant → Speed → List Code → ℕ → Rule → Type 0
+abbrev pub BrokenBy : Variant → Speed → List Code → ℕ → Rule → Type 0
 BrokenBy sheet approach row interval rule = rows.Breaks (track_for sheet) (mark_for sheet) printed_emergency printed_service approach row interval rule
 
 abbrev LawfulRow : Variant → Speed → List Code → Type 0

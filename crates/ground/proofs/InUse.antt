@@ -3,7 +3,16 @@ use Rattle.std.proofs.Common.{◌≡◌, ℕ, suc, ◌+◌, ◌-◌, ◌<◌, �
 use Rattle.std.specs.List.{copy_within, remove}
 use Rattle.std.proofs.lemmas.List.{take_more_set, take-take, take_at, drop-take, length-take-le}
 use Rattle.std.proofs.lemmas.List.Edits.{length-remove}
-use Rattle.ground.specs.Tables.{contents, closed_up}
+use Rattle.std.proofs.lemmas.Bool.Decides.{nat_tests}
+use Rattle.codes.specs.Refusals.Told.{gives}
+use Rattle.ground.specs.Tables.{contents, appending, removing, closed_up}
+
+-- ---- what a count that is answered tells
+pub room_from_appending : (size count limit after : ℕ) → gives after ≡ appending size count limit → (after ≡ count + 1) × (count < size) × (count < limit)
+room_from_appending size count limit after h = (grind (arith, nat_tests), grind (arith, nat_tests), grind (arith, nat_tests))
+
+pub place_from_removing : (size count place after : ℕ) → gives after ≡ removing size count place → (after ≡ count - 1) × (place < count) × (count ≤ size)
+place_from_removing size count place after h = (grind (arith, nat_tests), grind (arith, nat_tests), grind (arith, nat_tests))
 
 -- ---- a record appended
 pub contents_appended : {X : Type 0} (table : List X) (count : ℕ) (added : X) → count < length table → contents (set table count added) (count + 1) ≡ contents table count ++ added ∷ []
